@@ -1,0 +1,5 @@
+pub mod Rows
+pub mod Unknown
+pub mod Rust
+pub mod Settle
+pub mod Unique

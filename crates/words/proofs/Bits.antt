@@ -1,0 +1,63 @@
+-- Bits of a word and of its halves: one law for each half, and that a loaded word is the number that its bytes are.
+-- Assumes nothing.
+use Prim.Native.Nat.{ℕ, _+_, _-_, _*_, _/_, _%_, _^_, _<_, _≤_}
+use mathlib.Core.Path.{_≡_, refl, sym, ap, _∙_}
+use mathlib.Core.List.{List, [], _∷_}
+use native.Mathlib.Nat.{mod-lt, one-mul}
+use lib.ListN.{length, getD, drop}
+use lib.Seq.{drop-drop, getD-drop}
+use native.Mathlib.Omega.{arith}
+use lib.Pow.{high, low, field, mod-mod-pow, mod-pow-add, shr-shr, pow-pos, shl-exact}
+use Rattle.words.specs.declared.Word.{Word}
+use Rattle.words.specs.Word.{number, slice, wordOf, value, bits, idOf}
+
+-- Bits h:l of a number are what its low h + 1 bits leave above l.
+above : (h l n : ℕ) → l ≤ h → slice h l n ≡ n % 2 ^ (h + 1) / 2 ^ l
+above h l n le =
+    let e : h + 1 - l + l ≡ h + 1 = omega arith in
+    sym (field n (h + 1 - l) l) ∙ ap (λ (k : ℕ). n % 2 ^ k / 2 ^ l) e
+
+-- Bits in the lower half are bits of that half.
+pub low-half : (h l : ℕ) (w : Word) → w .lo < 2 ^ 64 → l ≤ h → h < 64 → bits h l w ≡ slice h l (w .lo)
+unfolding bits
+low-half h l w fits le lt =
+    above h l (value w) le ∙ ap (λ (n : ℕ). n / 2 ^ l) same ∙ sym (above h l (w .lo) le)
+  where
+    apart : 63 - h + (h + 1) ≡ 64
+    apart = omega arith
+
+    cut : value w % 2 ^ 64 % 2 ^ (h + 1) ≡ value w % 2 ^ (h + 1)
+    cut = ap (λ (k : ℕ). value w % 2 ^ k % 2 ^ (h + 1)) (sym apart) ∙ mod-mod-pow (value w) (63 - h) (h + 1)
+
+    same : value w % 2 ^ (h + 1) ≡ w .lo % 2 ^ (h + 1)
+    same = sym cut ∙ ap (λ (n : ℕ). n % 2 ^ (h + 1)) (low (w .hi) 64 fits)
+
+-- Bits in the upper half are bits of that half, counted from 64.
+pub high-half : (h l : ℕ) (w : Word) → w .lo < 2 ^ 64 → 64 ≤ l → bits h l w ≡ (w .hi / 2 ^ (l - 64)) % 2 ^ (h + 1 - l)
+unfolding bits
+high-half h l w fits le = ap (λ (n : ℕ). n % 2 ^ (h + 1 - l)) (ap (λ (k : ℕ). value w / 2 ^ k) (sym e) ∙ sym (shr-shr (value w) 64 (l - 64)) ∙ ap (λ (n : ℕ). n / 2 ^ (l - 64)) (high (w .hi) 64 fits))
+  where
+    e : 64 + (l - 64) ≡ l
+    e = omega arith
+
+-- The code's remainder by `1 << k`, in a width that holds it, is that by 2 ^ k.
+pub one-shl : (k w : ℕ) → k < w → (1 * 2 ^ k) % 2 ^ w ≡ 2 ^ k
+one-shl k w h = shl-exact 1 k w (omega arith) (omega arith) ∙ one-mul (2 ^ k)
+
+pub masked : (n k w x : ℕ) → k < w → x ≡ n % 2 ^ k → (n % ((1 * 2 ^ k) % 2 ^ w) ≡ x) × (n % ((1 * 2 ^ k) % 2 ^ w) < 2 ^ k)
+masked n k w x h e = rw (one-shl k w h) (sym e, mod-lt n (pow-pos k))
+
+pub shl-pos : (k w : ℕ) → k < w → 0 < (1 * 2 ^ k) % 2 ^ w
+shl-pos k w h = rw (one-shl k w h) (pow-pos k)
+
+-- A range that lies in both halves is put together of its parts.
+pub both-halves : (h l : ℕ) (w : Word) → l ≤ 64 → 64 ≤ h → bits h l w ≡ bits h 64 w * 2 ^ (64 - l) + bits 63 l w
+unfolding bits
+both-halves h l w low high =
+    let whole : h + 1 - l ≡ h + 1 - 64 + (64 - l) = omega arith in
+    let seam : l + (64 - l) ≡ 64 = omega arith in
+    let under : 63 + 1 - l ≡ 64 - l = omega arith in
+    ap (λ (k : ℕ). (value w / 2 ^ l) % 2 ^ k) whole
+    ∙ mod-pow-add (value w / 2 ^ l) (h + 1 - 64) (64 - l)
+    ∙ ap (λ (n : ℕ). n % 2 ^ (h + 1 - 64) * 2 ^ (64 - l) + (value w / 2 ^ l) % 2 ^ (64 - l)) (shr-shr (value w) l (64 - l) ∙ ap (λ (k : ℕ). value w / 2 ^ k) seam)
+    ∙ ap (λ (k : ℕ). (value w / 2 ^ 64) % 2 ^ (h + 1 - 64) * 2 ^ (64 - l) + (value w / 2 ^ l) % 2 ^ k) (sym under)

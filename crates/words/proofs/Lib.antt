@@ -1,0 +1,5 @@
+pub mod Bits
+pub mod Load
+pub mod Table
+pub mod Unique
+pub mod Worst

@@ -1,0 +1,71 @@
+-- A word as it is loaded: the number that ten bytes are, byte by byte.
+-- Assumes nothing.
+use Prim.Native.Nat.{ℕ, zero, suc, _+_, _*_, _<_, _≤_, _^_}
+use mathlib.Core.Path.{_≡_, refl, sym, ap, _∙_}
+use mathlib.Core.List.{List, [], _∷_}
+use native.Mathlib.Nat.{le-of-eq}
+use native.Mathlib.Omega.{arith}
+use lib.ListN.{length, getD, drop, drop-of-length-le}
+use lib.Seq.{drop-cons}
+use Rattle.words.specs.declared.Word.{Word}
+use Rattle.words.specs.Word.{number, wordOf, value, idOf, bits}
+
+-- The number of the bytes from a place on is that byte and 256 times those after it.
+peel : (b : List ℕ) (i : ℕ) → number (drop i b) ≡ getD b i 0 + 256 * number (drop (suc i) b)
+unfolding number
+peel [] zero = refl
+peel [] (suc i) = refl
+peel (x ∷ xs) zero = refl
+peel (x ∷ xs) (suc i) = peel xs i
+
+-- The two halves that the code sums up, as numbers of ten bytes.
+abbrev pub lower : List ℕ → ℕ
+lower b =
+    getD b 0 0 + 0x100 * getD b 1 0 + 0x1_0000 * getD b 2 0 + 0x100_0000 * getD b 3 0 + 0x1_0000_0000 * getD b 4 0
+    + 0x100_0000_0000 * getD b 5 0
+    + 0x1_0000_0000_0000 * getD b 6 0
+    + 0x100_0000_0000_0000 * getD b 7 0
+
+abbrev pub upper : List ℕ → ℕ
+upper b = getD b 8 0 + 0x100 * getD b 9 0
+
+pub number-ten : (b : List ℕ) → length b ≡ 10 → number b ≡ lower b + 2 ^ 64 * upper b
+unfolding number
+number-ten b e =
+    let end : number (drop 10 b) ≡ 0 = ap number (drop-of-length-le b (le-of-eq e)) in
+    omega (arith, peel b 0, peel b 1, peel b 2, peel b 3, peel b 4, peel b 5, peel b 6, peel b 7, peel b 8, peel b 9)
+
+-- What the code sums up is the word.
+pub loaded : (b : List ℕ) → length b ≡ 10 → (r : Word) → r .lo ≡ lower b → r .hi ≡ upper b → lower b < 2 ^ 64 → upper b < 2 ^ 16 → r ≡ wordOf b
+unfolding wordOf
+loaded b e r p q fits fits-too =
+    let n = number-ten b e in
+    let lo : r .lo ≡ wordOf b .lo = omega arith in
+    let hi : r .hi ≡ wordOf b .hi = omega arith in
+    λ i. record { lo = lo i; hi = hi i }
+
+-- n elements, one after the other from a place on, and that they are the rest of the list where so many are left.
+abbrev pub reads : ℕ → ℕ → List ℕ → List ℕ
+reads zero i b = []
+reads (suc n) i b = getD b i 0 ∷ reads n (suc i) b
+
+pub reads-all : (n i : ℕ) (b : List ℕ) → i + n ≡ length b → reads n i b ≡ drop i b
+reads-all zero i b e = sym (drop-of-length-le b {i = i} (omega arith))
+reads-all (suc n) i b e =
+    let more : suc i + n ≡ length b = omega arith in
+    ap (λ (l : List ℕ). getD b i 0 ∷ l) (reads-all n (suc i) b more) ∙ sym (drop-cons b i 0 (omega arith))
+
+-- The number that a loaded word is, is that of its bytes: so `bits h l` of the word are bits h:l of the ten bytes.
+pub whole : (b : List ℕ) → length b ≡ 10 → ((i : ℕ) → getD b i 0 < 256) → value (wordOf b) ≡ number b
+unfolding wordOf
+whole b e byte =
+    let n = number-ten b e in
+    omega (arith, byte 0, byte 1, byte 2, byte 3, byte 4, byte 5, byte 6, byte 7, byte 8, byte 9)
+
+-- The id of a loaded word is its byte 9.
+pub id-byte : (b : List ℕ) → length b ≡ 10 → ((i : ℕ) → getD b i 0 < 256) → idOf (wordOf b) ≡ getD b 9 0
+unfolding bits
+id-byte b e byte =
+    let n = number-ten b e in
+    let w = whole b e byte in
+    omega (arith, byte 0, byte 1, byte 2, byte 3, byte 4, byte 5, byte 6, byte 7, byte 8, byte 9)

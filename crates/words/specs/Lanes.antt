@@ -1,0 +1,27 @@
+-- 01, "Words": "Lane status: two bits a lane, 28 lanes, 0 good, 1 warning, 2 error, 3 fatal; a word's status is the worst lane (F)." And "Easy to
+-- get wrong": "Lanes above 27 are never active."
+-- Assumes nothing.
+use Prim.Native.Nat.{ℕ, zero, suc, max, _+_, _*_, _/_, _%_, _^_}
+use mathlib.Core.Bool.{Bool, cond, _&&_}
+use lib.Dec.{ltb, eqb}
+use Rattle.words.specs.declared.Word.{Word}
+use Rattle.words.specs.Word.{bits}
+
+abbrev pub lanes : ℕ
+lanes = 28
+
+-- Lane n's two bits; a lane above 27 has no status, and counts as good.
+abbrev pub laneStatus : ℕ → Word → ℕ
+laneStatus n w = cond (ltb n lanes) (bits (2 * n + 1) (2 * n) w) 0
+
+-- The worst of the lanes below n.
+unfoldable pub worstBelow : ℕ → Word → ℕ
+worstBelow zero w = 0
+worstBelow (suc n) w = max (worstBelow n w) (laneStatus n w)
+
+abbrev pub worstLane : Word → ℕ
+worstLane = worstBelow lanes
+
+-- Whether a lane is among the active lanes, at any lane number.
+abbrev pub isLaneActive : ℕ → ℕ → Bool
+isLaneActive lane active = ltb lane lanes && eqb (active / 2 ^ lane % 2) 1
