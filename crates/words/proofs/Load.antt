@@ -1,12 +1,11 @@
 -- A word as it is loaded: the number that ten bytes are, byte by byte.
 -- Assumes nothing.
 use Prim.Native.Nat.{ℕ, zero, suc, _+_, _*_, _<_, _≤_, _^_}
-use mathlib.Core.Path.{_≡_, refl, sym, ap, _∙_}
+use mathlib.Core.Path.{_≡_, refl, ap}
 use mathlib.Core.List.{List, [], _∷_}
 use native.Mathlib.Nat.{le-of-eq}
 use native.Mathlib.Omega.{arith}
 use lib.ListN.{length, getD, drop, drop-of-length-le}
-use lib.Seq.{drop-cons}
 use Rattle.words.specs.declared.Word.{Word}
 use Rattle.words.specs.Word.{number, wordOf, value, idOf, bits}
 
@@ -43,17 +42,6 @@ loaded b e r p q fits fits-too =
     let lo : r .lo ≡ wordOf b .lo = omega arith in
     let hi : r .hi ≡ wordOf b .hi = omega arith in
     λ i. record { lo = lo i; hi = hi i }
-
--- n elements, one after the other from a place on, and that they are the rest of the list where so many are left.
-abbrev pub reads : ℕ → ℕ → List ℕ → List ℕ
-reads zero i b = []
-reads (suc n) i b = getD b i 0 ∷ reads n (suc i) b
-
-pub reads-all : (n i : ℕ) (b : List ℕ) → i + n ≡ length b → reads n i b ≡ drop i b
-reads-all zero i b e = sym (drop-of-length-le b {i = i} (omega arith))
-reads-all (suc n) i b e =
-    let more : suc i + n ≡ length b = omega arith in
-    ap (λ (l : List ℕ). getD b i 0 ∷ l) (reads-all n (suc i) b more) ∙ sym (drop-cons b i 0 (omega arith))
 
 -- The number that a loaded word is, is that of its bytes: so `bits h l` of the word are bits h:l of the ten bytes.
 pub whole : (b : List ℕ) → length b ≡ 10 → ((i : ℕ) → getD b i 0 < 256) → value (wordOf b) ≡ number b

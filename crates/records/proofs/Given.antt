@@ -1,0 +1,84 @@
+-- Laws of the records that rows give: how many there are, when there are none, and of rows one after the other.
+-- Assumes nothing.
+use Prim.Native.Nat.{ℕ, zero, suc, _+_, _-_, _*_, _<_}
+use mathlib.Core.Path.{_≡_, refl, sym, ap, _∙_}
+use mathlib.Core.Bool.{Bool, true, false, cond, not, _||_, or-false, true≢false}
+use mathlib.Core.List.{List, [], _∷_, _++_, append-assoc, append-nil}
+use native.Mathlib.Nat.{add-assoc, add-zero, zero-add}
+use native.Mathlib.Numerals.{add-one}
+use native.Mathlib.Omega.{arith}
+use lib.ListN.{length, getD, take, replicate, length-append}
+use lib.Seq.{take-suc}
+use Rattle.words.proofs.Listing.{reads-all}
+use Rattle.records.specs.declared.Row.{Row}
+use Rattle.records.specs.Records.{Record, recordAt, none, numbers, flat, given, count, anyOn, silent, recordWidth, mostRecords, padded}
+
+-- One row's records.
+abbrev pub one : ℕ → Row → List Record
+one position row = cond (row .on) (recordAt position row ∷ []) []
+
+pub counted : (position : ℕ) (rows : List Row) → length (given position rows) ≡ count rows
+unfolding given count
+counted position [] = refl
+counted position (row ∷ rows) = length-append (one position row) (given position rows) ∙ (λ i. head (row .on) i + counted position rows i)
+  where
+    head : (on : Bool) → length (cond on (recordAt position row ∷ []) []) ≡ cond on 1 0
+    head true = refl
+    head false = refl
+
+pub given-append : (position : ℕ) (xs ys : List Row) → given position (xs ++ ys) ≡ given position xs ++ given position ys
+unfolding given
+given-append position [] ys = refl
+given-append position (x ∷ xs) ys = ap (λ (l : List Record). one position x ++ l) (given-append position xs ys) ∙ sym (append-assoc (one position x) (given position xs) (given position ys))
+
+pub flat-append : (xs ys : List Record) → flat (xs ++ ys) ≡ flat xs ++ flat ys
+unfolding flat
+flat-append [] ys = refl
+flat-append (x ∷ xs) ys = ap (λ (l : List ℕ). numbers x ++ l) (flat-append xs ys) ∙ sym (append-assoc (numbers x) (flat xs) (flat ys))
+
+pub length-flat : (rs : List Record) → length (flat rs) ≡ recordWidth * length rs
+unfolding flat
+length-flat [] = refl
+length-flat (r ∷ rs) = omega (arith, length-flat rs)
+
+-- The records and their number at one row more.
+pub given-more : (position : ℕ) (rows : List Row) (i : ℕ) (d : Row) → i < length rows
+    → given position (take (i + 1) rows) ≡ given position (take i rows) ++ one position (getD rows i d)
+unfolding given
+given-more position rows i d h =
+    rw (add-one, take-suc rows i d, given-append) (ap (λ (l : List Record). given position (take i rows) ++ l) (append-nil (one position (getD rows i d))))
+
+count-append : (xs ys : List Row) → count (xs ++ ys) ≡ count xs + count ys
+unfolding count
+count-append [] ys = sym (zero-add (count ys))
+count-append (x ∷ xs) ys = ap (λ (n : ℕ). cond (x .on) 1 0 + n) (count-append xs ys) ∙ sym (add-assoc (cond (x .on) 1 0) (count xs) (count ys))
+
+pub count-more : (rows : List Row) (i : ℕ) (d : Row) → i < length rows → count (take (i + 1) rows) ≡ count (take i rows) + cond (getD rows i d .on) 1 0
+unfolding count
+count-more rows i d h =
+    rw (add-one, take-suc rows i d, count-append) (ap (λ (n : ℕ). count (take i rows) + n) (add-zero (cond (getD rows i d .on) 1 0)))
+
+-- No row's condition holds: there is no record.
+pub unheard : (position : ℕ) (rows : List Row) → silent rows ≡ true → given position rows ≡ []
+unfolding given anyOn
+unheard position [] e = refl
+unheard position (row ∷ rows) e = off (row .on) (unheard position rows) e
+  where
+    off : (on : Bool) → (silent rows ≡ true → given position rows ≡ []) → not (on || anyOn rows) ≡ true → cond on (recordAt position row ∷ []) [] ++ given position rows ≡ []
+    off true rest h = absurd (true≢false (sym h))
+    off false rest h = rest h
+
+-- The six places of a word's rows, read one by one.
+pub six-on : (rows : List Row) → length rows ≡ 6
+    → anyOn rows ≡ (getD rows 0 none .on || (getD rows 1 none .on || (getD rows 2 none .on || (getD rows 3 none .on || (getD rows 4 none .on || getD rows 5 none .on)))))
+unfolding anyOn
+six-on rows e = ap anyOn (sym (reads-all none 6 0 rows (omega arith))) ∙ simp or-false
+
+-- Places with no record give none.
+empty : (position n : ℕ) → given position (replicate n none) ≡ []
+unfolding given
+empty position zero = refl
+empty position (suc n) = empty position n
+
+pub given-padded : (position : ℕ) (rows : List Row) → given position (padded rows) ≡ given position rows
+given-padded position rows = given-append position rows (replicate (mostRecords - length rows) none) ∙ ap (λ (l : List Record). given position rows ++ l) (empty position (mostRecords - length rows)) ∙ append-nil (given position rows)

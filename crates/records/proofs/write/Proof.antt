@@ -1,0 +1,53 @@
+-- `write` meets its contract: the loop keeps what `Going` says.
+-- Assumes nothing.
+use borrow.Author.Needs.{needs}
+use denote.Ref.{now}
+use mathlib.Core.Logic.{⊎-elim}
+use mathlib.Core.Path.{_≡_}
+use Prim.Native.Nat.{_+_, _-_, _≤_}
+use lib.ListN.{length}
+use Rattle.records.proofs.Given.{counted}
+use Rattle.records.proofs.Writing.{Going, start, skip, has-room, more, tail-long, refused, written}
+use native.Mathlib.Omega.{arith}
+use Rattle.records.proofs.write.Statement.{statement}
+use Rattle.records.proofs.write.Tie as tie
+
+abbrev Inv-loop : tie.InvT-loop
+Inv-loop out₀ position rows n used₀ i₀ out used i = Going position rows out₀ out used i
+
+abbrev μ-loop : tie.MeasureT-loop
+μ-loop out₀ position rows n used₀ i₀ out used i = 6 - i
+
+returns : tie.Need-returns Inv-loop μ-loop
+returns c = refused (c .before .before .before .args .position) (c .before .before .before .args .t3) (now (c .before .before .before .args .out)) (omega (arith, c .before .count .ensures, c .if1 .taken))
+
+loop-holds : tie.Need-loop-holds Inv-loop μ-loop
+loop-holds c = start (c .before .before .before .args .position) (c .before .before .before .args .t3) (now (c .before .before .before .args .out)) (omega (arith, counted (c .before .before .before .args .position) (c .before .before .before .args .t3), c .before .count .ensures))
+
+fits : (c : tie.Then2 Inv-loop μ-loop) → c .before .before .before .loop .used + 4 ≤ length (c .before .before .before .loop .out)
+fits c = has-room (c .before .before .before .loop .inv) (search needs) (c .if2 .taken)
+
+mul-put : tie.Need-mul-put Inv-loop μ-loop
+mul-put c = omega (arith, fits c, c .before .before .before .before .before .before .before .good .0)
+
+sub-put : tie.Need-sub-put Inv-loop μ-loop
+sub-put c = omega (arith, fits c)
+
+part-put-start : tie.Need-part-put-start Inv-loop μ-loop
+part-put-start c = omega (arith, fits c)
+
+put-requires : tie.Need-put-requires Inv-loop μ-loop
+put-requires c κs = tail-long (c .before .before .before .before .loop .used) 4 (c .before .before .before .before .loop .out) (fits (c .before))
+
+add-used : tie.Need-add-used Inv-loop μ-loop
+add-used c = omega (arith, fits (c .before .before .before .before), c .before .before .before .before .before .before .before .before .before .before .before .good .0)
+
+loop-again : tie.Need-loop-again Inv-loop μ-loop
+loop-again c =
+    ⊎-elim (λ w. more (c .before .before .before .loop .inv) (search needs) (w .0 .taken) (w .2 .ensures) (w .5) (w .6)) (λ w. skip (c .before .before .before .loop .inv) (search needs) (w .0 .left) (w .1) (w .2)) (c .if2 .came)
+
+returns-2 : tie.Need-returns-2 Inv-loop μ-loop
+returns-2 c = written (c .before .before .before .before .before .args .position) (c .before .before .before .before .before .args .t3) (now (c .before .before .before .before .before .args .out)) (c .before .loop .out) (c .before .loop .used) (c .before .loop .i) (c .before .before .before .count .result) (c .before .loop .inv) (search needs) (c .before .before .before .count .ensures) (omega (arith, c .before .before .before .count .ensures, c .before .before .if1 .left))
+
+pub write-spec : {M : Type 1} → statement M
+write-spec = tie.close (tie.spec Inv-loop μ-loop (λ c. search needs) returns loop-holds (λ c. search needs) (λ c. search needs) mul-put sub-put part-put-start (λ c. search needs) put-requires add-used (λ c. search needs) (λ c. search needs) loop-again (λ c. search needs) returns-2)

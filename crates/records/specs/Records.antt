@@ -1,0 +1,80 @@
+-- 01, "Calls and settings": what a record is, which records a word's rows give, and what a buffer then holds.
+-- Assumes nothing.
+use Prim.Native.Nat.{ℕ, _+_, _-_, _*_, _/_}
+use mathlib.Core.Path.{_≡_}
+use mathlib.Core.Bool.{Bool, true, false, cond, not, _||_}
+use mathlib.Core.List.{List, [], _∷_, _++_}
+use lib.Dec.{ltb}
+use lib.ListN.{length, drop, replicate}
+use Rattle.records.specs.declared.Row.{Row}
+use Rattle.records.specs.declared.Written.{Written}
+use Rattle.records.specs.declared.Written.the-variants.{Records, NoRoom}
+
+-- "A record is four 64-bit numbers: position, code, first, second."
+abbrev pub recordWidth : ℕ
+recordWidth = 4
+
+pub record Record : Type 0 where
+  pub position : ℕ
+  pub code : ℕ
+  pub first : ℕ
+  pub second : ℕ
+
+abbrev pub numbers : Record → List ℕ
+numbers r = r .position ∷ r .code ∷ r .first ∷ r .second ∷ []
+
+-- Records one after the other, as numbers.
+unfoldable pub flat : List Record → List ℕ
+flat [] = []
+flat (r ∷ rs) = numbers r ++ flat rs
+
+-- A line of 01's "Records": under a condition, a code and its two numbers.
+abbrev pub when : Bool → ℕ → ℕ → ℕ → Row
+when on code first second = record { on = on; code = code; first = first; second = second }
+
+-- A place with no record.
+abbrev pub none : Row
+none = when false 0 0 0
+
+-- "One word gives at most six": rows in six places, those after the last with no record.
+abbrev pub mostRecords : ℕ
+mostRecords = 6
+
+abbrev pub padded : List Row → List Row
+padded rows = rows ++ replicate (mostRecords - length rows) none
+
+abbrev pub recordAt : ℕ → Row → Record
+recordAt position row = record { position = position; code = row .code; first = row .first; second = row .second }
+
+-- The records that rows give at a position: those whose condition holds, in order.
+unfoldable pub given : ℕ → List Row → List Record
+given position [] = []
+given position (row ∷ rows) = cond (row .on) (recordAt position row ∷ []) [] ++ given position rows
+
+-- How many they are, and whether there are any, told without making them (proofs/Given.antt, `counted`, `unheard`).
+unfoldable pub count : List Row → ℕ
+count [] = 0
+count (row ∷ rows) = cond (row .on) 1 0 + count rows
+
+unfoldable pub anyOn : List Row → Bool
+anyOn [] = false
+anyOn (row ∷ rows) = row .on || anyOn rows
+
+abbrev pub silent : List Row → Bool
+silent rows = not (anyOn rows)
+
+-- "A buffer's room is its length divided by four, rounded down."
+abbrev pub room : List ℕ → ℕ
+room buffer = length buffer / recordWidth
+
+-- What stands in a buffer after numbers were written at its front: "the rest of the buffer stays".
+abbrev pub over : List ℕ → List ℕ → List ℕ
+over written buffer = written ++ drop (length written) buffer
+
+-- "4: this word's records exceed the buffer's room": nothing is written. Else the records stand at its front.
+abbrev pub exceed : List Record → ℕ → Bool
+exceed records places = ltb places (length records)
+
+pub record WritePost (position : ℕ) (rows : List Row) (buffer : List ℕ) (r : Written) (after : List ℕ) : Type 0 where
+  pub answer : r ≡ cond (exceed (given position rows) (room buffer)) NoRoom (Records (length (given position rows)))
+  pub buffer-is : after ≡ cond (exceed (given position rows) (room buffer)) buffer (over (flat (given position rows)) buffer)

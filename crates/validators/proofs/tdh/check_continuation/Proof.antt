@@ -1,0 +1,15 @@
+-- `check_continuation` meets its contract: each row is its line of 01.
+-- Assumes nothing.
+use borrow.Author.Needs.{needs}
+use native.Mathlib.Omega.{arith}
+use Rattle.validators.proofs.tdh.check_continuation.Statement.{statement}
+use Rattle.validators.proofs.tdh.check_continuation.Tie as tie
+
+cast-when-5 : tie.Need-cast-when-5
+cast-when-5 c = omega (arith, c .before .before .before .before .before .before .before .before .before .before .before .before .before .before .before .trigger-type)
+
+returns : tie.Need-returns
+returns c = simp (c .when5 .ensures, c .before .before .before .before .when4 .ensures, c .before .before .before .before .before .before .before .before .when3 .ensures, c .before .before .before .before .before .before .before .before .before .before .before .before .when2 .ensures, c .before .before .before .before .before .before .before .before .before .before .before .before .before .before .when .ensures, c .before .before .before .before .before .before .before .before .before .before .before .before .before .before .before .none .ensures, c .before .before .before .before .before .before .before .before .before .before .before .before .before .before .before .before .continuation .ensures, c .before .before .before .before .before .before .before .before .before .before .before .before .before .before .before .before .before .trigger-type .ensures, c .before .before .before .before .before .before .before .before .before .before .before .before .before .before .before .before .before .before .trigger-orbit .ensures, c .before .before .before .before .before .before .before .before .before .before .before .before .before .before .before .before .before .before .before .trigger-bc .ensures, c .before .before .before .before .before .before .before .before .before .before .before .before .before .before .before .before .before .before .before .before .sanity-check .ensures)
+
+pub check-continuation-spec : {M : Type 1} → statement M
+check-continuation-spec = tie.close (tie.spec (λ c. search needs) (λ c. search needs) (λ c. search needs) (λ c. search needs) (λ c. search needs) (λ c. search needs) (λ c. search needs) (λ c. search needs) (λ c. search needs) (λ c. search needs) (λ c. search needs) (λ c. search needs) (λ c. search needs) (λ c. search needs) cast-when-5 (λ c. search needs) (λ c. search needs) returns)

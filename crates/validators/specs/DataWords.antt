@@ -1,0 +1,45 @@
+-- 01, "Records": "Data word or CDW kind: with no data seen yet in this packet and id 0xF8: R, 81 if a CDW was stored before, user fields differ and index
+-- is not 0 (index); then it is stored. Else 70 if not a data id (id); then R, top bits 001: 1072 lane not active (lane, active); top bits 010: 1071
+-- likewise, then 1073 input above 6 (input). Data is then seen." Before these, where the id was unknown, "991, first the id".
+-- Assumes nothing.
+use Prim.Native.Nat.{ℕ, _/_}
+use mathlib.Core.Bool.{Bool, not, _&&_}
+use mathlib.Core.List.{List, [], _∷_}
+use lib.Dec.{ltb, eqb}
+use Rattle.words.specs.declared.Word.{Word}
+use Rattle.words.specs.Word.{idOf, slice}
+use Rattle.words.specs.Cdw.{cdwId, userFields, wordIndex}
+use Rattle.words.specs.DataIds.{isDataId, innerLane, outerLane, inputNumber}
+use Rattle.words.specs.Lanes.{isLaneActive}
+use Rattle.records.specs.declared.Row.{Row}
+use Rattle.records.specs.Records.{when}
+use Rattle.validators.specs.declared.Settings.{Settings}
+use Rattle.validators.specs.declared.StoredCdw.{StoredCdw}
+use Rattle.validators.specs.Detail.{differ}
+
+-- "with no data seen yet in this packet and id 0xF8"
+abbrev pub firstCdw : Bool → Word → Bool
+firstCdw seen w = not seen && eqb (idOf w) cdwId
+
+-- "top bits": bits 7:5 of the id.
+abbrev pub topBits : Word → ℕ
+topBits w = idOf w / 32
+
+abbrev pub inner : Word → Bool
+inner w = eqb (topBits w) 0b001
+
+abbrev pub outer : Word → Bool
+outer w = eqb (topBits w) 0b010
+
+abbrev pub dataRows : Settings → Bool → ℕ → StoredCdw → Bool → Word → List Row
+dataRows s seen lanes stored guessed w =
+    let id = idOf w in
+    let first = firstCdw seen w in
+    let laned = s .running && not first in
+    when guessed 991 id 0
+    ∷ when (s .running && (first && (stored .stored && (differ (stored .user) (userFields w) && differ (wordIndex w) 0)))) 81 (wordIndex w) 0
+    ∷ when (not first && not (isDataId id)) 70 id 0
+    ∷ when (laned && (inner w && not (isLaneActive (innerLane id) lanes))) 1072 (innerLane id) lanes
+    ∷ when (laned && (outer w && not (isLaneActive (outerLane id) lanes))) 1071 (outerLane id) lanes
+    ∷ when (laned && (outer w && ltb 6 (inputNumber id))) 1073 (inputNumber id) 0
+    ∷ []

@@ -1,0 +1,83 @@
+-- 01, "Records": the three kinds of TDH, and the interval.
+-- Assumes nothing.
+use Prim.Native.Nat.{ℕ, _+_, _-_, _/_, _%_, _^_}
+use mathlib.Core.Bool.{Bool, cond, _&&_, _||_}
+use mathlib.Core.List.{List, [], _∷_}
+use lib.Dec.{ltb, eqb}
+use Rattle.words.specs.declared.Word.{Word}
+use Rattle.words.specs.Word.{idOf, slice}
+use Rattle.words.specs.Tdh.{tdhId, maxBc, triggerType, internalTrigger, continuation, triggerBc, triggerOrbit, isReserved0}
+use Rattle.records.specs.declared.Row.{Row}
+use Rattle.records.specs.Records.{when}
+use Rattle.validators.specs.declared.Settings.{Settings}
+use Rattle.validators.specs.declared.Packet.{Packet}
+use Rattle.validators.specs.declared.StoredTdh.{StoredTdh}
+use Rattle.validators.specs.declared.InternalTdh.{InternalTdh}
+use Rattle.validators.specs.Detail.{detailed, differ}
+
+-- "TDH: 40 (1 id alone; else 2 reserved plus 4 type and internal both 0)."
+abbrev pub detail : Word → ℕ
+detail w =
+    cond (eqb (idOf w) tdhId)
+    (cond (isReserved0 w) 0 2 + cond (eqb (triggerType w) 0 && eqb (internalTrigger w) 0) 4 0)
+    1
+
+-- "the found period is the one number below 3564 that added to previous gives current modulo 3564" (that it is the one: proofs/Period.antt).
+abbrev pub crossings : ℕ
+crossings = 3564
+
+abbrev pub period : ℕ → ℕ → ℕ
+period previous current = (current + (crossings - previous % crossings)) % crossings
+
+-- "either BC is above 3563"
+abbrev pub illegal : ℕ → ℕ → Bool
+illegal previous current = ltb maxBc previous || ltb maxBc current
+
+-- "Interval: if a period is set, this TDH is internal and an earlier one was (the last such): when either BC is above 3563, 1045 (previous, current);
+-- else 45 if the period differs (found, set)."
+abbrev pub asked : Settings → InternalTdh → Word → Bool
+asked s earlier w = s .running && (s .periodic && (eqb (internalTrigger w) 1 && earlier .stored))
+
+abbrev pub interval : Settings → InternalTdh → Word → Row
+interval s earlier w =
+    let previous = earlier .bc in
+    let current = triggerBc w in
+    when (asked s earlier w && (illegal previous current || differ (period previous current) (s .period)))
+    (cond (illegal previous current) 1045 45)
+    (cond (illegal previous current) previous (period previous current))
+    (cond (illegal previous current) current (s .period))
+
+-- "if page is 0 and (internal is 1 or bit 4 of packet trigger type is set)"
+abbrev pub matchesPacket : Packet → Word → Bool
+matchesPacket p w = eqb (p .page) 0 && (eqb (internalTrigger w) 1 || eqb (slice 4 4 (p .trigger)) 1)
+
+-- "the packet's low 12 bits"
+abbrev pub packetType : Packet → ℕ
+packetType p = slice 11 0 (p .trigger)
+
+-- "R, kind TDH: 42 continuation not 0 (first 1); 444 orbit differs from packet (TDH, packet); if ..: 445 BC differs (TDH, packet), then 44 type
+-- differs from the packet's low 12 bits (TDH, packet). Then the interval."
+abbrev pub tdhRows : Settings → Packet → InternalTdh → Word → List Row
+tdhRows s p earlier w =
+    detailed 40 (detail w) ∷ when (s .running && differ (continuation w) 0) 42 1 0
+    ∷ when (s .running && differ (triggerOrbit w) (p .orbit)) 444 (triggerOrbit w) (p .orbit)
+    ∷ when (s .running && (matchesPacket p w && differ (triggerBc w) (p .bc))) 445 (triggerBc w) (p .bc)
+    ∷ when (s .running && (matchesPacket p w && differ (triggerType w) (packetType p))) 44 (triggerType w) (packetType p)
+    ∷ interval s earlier w
+    ∷ []
+
+-- "R, after packet done: 440 if the previous TDH has a larger BC (previous, current); then the interval."
+abbrev pub afterPacketDoneRows : Settings → StoredTdh → InternalTdh → Word → List Row
+afterPacketDoneRows s previous earlier w =
+    detailed 40 (detail w) ∷ when (s .running && ltb (triggerBc w) (previous .bc)) 440 (previous .bc) (triggerBc w)
+    ∷ interval s earlier w
+    ∷ []
+
+-- "R, continuation: 41 continuation not 1 (first 0); against the previous TDH 441 BC, 442 orbit, 443 type (current, previous)."
+abbrev pub continuationRows : Settings → StoredTdh → Word → List Row
+continuationRows s previous w =
+    detailed 40 (detail w) ∷ when (s .running && differ (continuation w) 1) 41 0 0
+    ∷ when (s .running && differ (triggerBc w) (previous .bc)) 441 (triggerBc w) (previous .bc)
+    ∷ when (s .running && differ (triggerOrbit w) (previous .orbit)) 442 (triggerOrbit w) (previous .orbit)
+    ∷ when (s .running && differ (triggerType w) (previous .kind)) 443 (triggerType w) (previous .kind)
+    ∷ []

@@ -1,0 +1,76 @@
+// The records of a data word or CDW. 01, "Records": data word or CDW kind.
+ghost use mathlib.Core.Path.{_≡_};
+ghost use Rattle.records.specs.Records.{padded};
+ghost use Rattle.validators.specs.DataWords.{firstCdw, dataRows};
+use crate::Settings;
+use crate::StoredCdw;
+use records::Row;
+use records::when;
+use words::Word;
+use words::cdw::Cdw;
+use words::data_words::ib_data_word_id_to_lane;
+use words::data_words::is_data_word_id;
+use words::data_words::ob_data_word_id_to_input_number_connector;
+use words::data_words::ob_data_word_id_to_lane;
+use words::util::is_lane_active;
+
+// A CDW as the first data of a packet.
+pub fn is_first_cdw(seen: bool, word: Word) -> bool
+    ensures { λ r. ⌜ r ≡ firstCdw seen word ⌝ }
+{
+    let id = word.id();
+    !seen & (id == Cdw::ID)
+}
+
+// Kinds data word and CDW, guessed or not, with the active lanes and the CDW stored before.
+pub fn check(
+    settings: Settings,
+    seen: bool,
+    lanes: u32,
+    stored: StoredCdw,
+    guessed: bool,
+    word: Word,
+) -> [Row; 6]
+    ensures { λ r. ⌜ r ≡ padded (dataRows settings seen lanes stored guessed word) ⌝ }
+{
+    let cdw = Cdw { word: word };
+    let id = word.id();
+    let first = is_first_cdw(seen, word);
+    let user = cdw.calibration_user_fields();
+    let index = cdw.calibration_word_index();
+    let known = is_data_word_id(id);
+    let inner = ib_data_word_id_to_lane(id);
+    let outer = ob_data_word_id_to_lane(id);
+    let input = ob_data_word_id_to_input_number_connector(id);
+    let inner_on = is_lane_active(inner, lanes);
+    let outer_on = is_lane_active(outer, lanes);
+    let laned = settings.running & !first;
+    [
+        when(guessed, 991, id as u64, 0),
+        when(
+            settings.running & (first & (stored.stored & ((stored.user != user) & (index != 0)))),
+            81,
+            index as u64,
+            0,
+        ),
+        when(!first & !known, 70, id as u64, 0),
+        when(
+            laned & ((id / 32 == 1) & !inner_on),
+            1072,
+            inner as u64,
+            lanes as u64,
+        ),
+        when(
+            laned & ((id / 32 == 2) & !outer_on),
+            1071,
+            outer as u64,
+            lanes as u64,
+        ),
+        when(
+            laned & ((id / 32 == 2) & (input > 6)),
+            1073,
+            input as u64,
+            0,
+        ),
+    ]
+}

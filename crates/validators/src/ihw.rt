@@ -1,0 +1,57 @@
+// The records of an IHW. 01, "Records": IHW.
+ghost use mathlib.Core.Path.{_≡_};
+ghost use Rattle.records.specs.Records.{padded};
+ghost use Rattle.validators.specs.Ihw.{detail, ihwRows, continuationRows};
+use crate::Packet;
+use crate::Settings;
+use records::Row;
+use records::none;
+use records::pick;
+use records::when;
+use words::Word;
+use words::ihw::Ihw;
+
+// 30's detail: 1 for the id; else 2 for reserved bits.
+fn sanity_check(word: Word) -> u64
+    ensures { λ r. ⌜ r ≡ detail word ⌝ }
+{
+    let ihw = Ihw { word: word };
+    let id = word.id();
+    let clean = ihw.is_reserved_0();
+    pick(id == Ihw::ID, pick(clean, 0, 2), 1)
+}
+
+// Kind IHW: with the stop bit and the page of the packet.
+pub fn check_at_initial_ihw(settings: Settings, packet: Packet, word: Word) -> [Row; 6]
+    ensures { λ r. ⌜ r ≡ padded (ihwRows settings packet word) ⌝ }
+{
+    let fault = sanity_check(word);
+    let z = none();
+    [
+        when(fault != 0, 30, fault, 0),
+        when(
+            settings.running & (packet.stop != 0),
+            1120,
+            packet.stop as u64,
+            0,
+        ),
+        when(
+            settings.running & (packet.page != 0),
+            1121,
+            packet.page as u64,
+            0,
+        ),
+        z,
+        z,
+        z,
+    ]
+}
+
+// Kind IHW continuation.
+pub fn check_continuation(word: Word) -> [Row; 6]
+    ensures { λ r. ⌜ r ≡ padded (continuationRows word) ⌝ }
+{
+    let fault = sanity_check(word);
+    let z = none();
+    [when(fault != 0, 30, fault, 0), z, z, z, z, z]
+}

@@ -1,0 +1,46 @@
+// The records that a word gives, by what it was taken as: a file for each word, as in the Rust's validators.
+// Document 01, "Records, in the order given". What was stored before the word is handed in.
+pub mod data_words;
+pub mod ddw;
+pub mod ihw;
+pub mod tdh;
+pub mod tdt;
+
+// Fixed at the start: running checks, frames, and a period that is there or not.
+pub struct Settings {
+    pub running: bool,
+    pub frames: bool,
+    pub periodic: bool,
+    pub period: u16,
+}
+
+// What a packet's header says.
+pub struct Packet {
+    pub position: u64,
+    pub orbit: u32,
+    pub trigger: u32,
+    pub bc: u16,
+    pub page: u16,
+    pub stop: u8,
+    pub format: u8,
+}
+
+// Of the TDH stored last, what is read again.
+pub struct StoredTdh {
+    pub stored: bool,
+    pub kind: u16,
+    pub bc: u16,
+    pub orbit: u32,
+}
+
+// Of the last TDH with internal trigger, what is read again.
+pub struct InternalTdh {
+    pub stored: bool,
+    pub bc: u16,
+}
+
+// Of the CDW stored last, what is read again.
+pub struct StoredCdw {
+    pub stored: bool,
+    pub user: u64,
+}

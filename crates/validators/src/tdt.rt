@@ -1,0 +1,39 @@
+// The records of a TDT. 01, "Records": TDT.
+ghost use mathlib.Core.Path.{_≡_};
+ghost use Rattle.records.specs.Records.{padded};
+ghost use Rattle.validators.specs.Tdt.{detail, tdtRows};
+use crate::Settings;
+use records::Row;
+use records::none;
+use records::pick;
+use records::when;
+use words::Word;
+use words::tdt::Tdt;
+
+// 50's detail: 1 for the id; else 2 for reserved bits.
+fn sanity_check(word: Word) -> u64
+    ensures { λ r. ⌜ r ≡ detail word ⌝ }
+{
+    let tdt = Tdt { word: word };
+    let id = word.id();
+    let clean = tdt.is_reserved_0();
+    pick(id == Tdt::ID, pick(clean, 0, 2), 1)
+}
+
+// Kind TDT: with packet done it ends a frame, of which a start must have been seen.
+pub fn check(settings: Settings, live: bool, word: Word) -> [Row; 6]
+    ensures { λ r. ⌜ r ≡ padded (tdtRows settings live word) ⌝ }
+{
+    let tdt = Tdt { word: word };
+    let fault = sanity_check(word);
+    let done = tdt.packet_done();
+    let z = none();
+    [
+        when(fault != 0, 50, fault, 0),
+        when(settings.frames & (done & !live), 59, 0, 0),
+        z,
+        z,
+        z,
+        z,
+    ]
+}
