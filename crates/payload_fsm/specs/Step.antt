@@ -63,18 +63,6 @@ advanceOf S.CTdh w = taken K.TdhContinuation S.CData
 abbrev pub nextState : State → Word → State
 nextState state w = advanceOf state w .fsm .state
 
--- The numbers of the kinds; 0 is none, for a refused word.
-abbrev pub kindNumber : ItsPayloadWord → ℕ
-kindNumber K.Ihw = 1
-kindNumber K.IhwContinuation = 2
-kindNumber K.Tdh = 3
-kindNumber K.TdhAfterPacketDone = 4
-kindNumber K.TdhContinuation = 5
-kindNumber K.DataWord = 6
-kindNumber K.Cdw = 7
-kindNumber K.Tdt = 8
-kindNumber K.Ddw0 = 9
-
 -- The code of a guess, by what the word was guessed to be: the Rust's errors TDH_or_DDW0 (990), DW_or_TDT_CDW (991) and DDW0_or_TDH_IHW (992).
 abbrev pub guessCode : ItsPayloadWord → ℕ
 guessCode K.Ihw = 0

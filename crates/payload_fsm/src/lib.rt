@@ -1,7 +1,8 @@
 // The state machine of an ITS payload in continuous mode: what a word is taken as, and the next state.
 // Document 01, "The tracker"; the Rust's its_payload_fsm_cont.rs.
 ghost use mathlib.Core.Path.{_≡_};
-ghost use Rattle.payload_fsm.specs.Step.{start, taken, guess, afterTdh, inData, inThree, advanceOf, kindNumber};
+ghost use Rattle.payload_fsm.specs.Kinds.{kindNumber, isIhw, isTdh, isData, isTdt};
+ghost use Rattle.payload_fsm.specs.Step.{start, taken, guess, afterTdh, inData, inThree, advanceOf};
 use words::Word;
 use words::cdw::Cdw;
 use words::ddw::Ddw0;
@@ -65,6 +66,76 @@ pub fn kind_number(word: ItsPayloadWord) -> u8
         ItsPayloadWord::Cdw => 7,
         ItsPayloadWord::Tdt => 8,
         ItsPayloadWord::Ddw0 => 9,
+    }
+}
+
+impl ItsPayloadWord {
+    // An IHW, continuation too.
+    pub fn is_ihw(self) -> bool
+        ensures { λ r. ⌜ r ≡ isIhw self ⌝ }
+    {
+        match self {
+            ItsPayloadWord::Ihw => true,
+            ItsPayloadWord::IhwContinuation => true,
+            ItsPayloadWord::Tdh => false,
+            ItsPayloadWord::TdhAfterPacketDone => false,
+            ItsPayloadWord::TdhContinuation => false,
+            ItsPayloadWord::DataWord => false,
+            ItsPayloadWord::Cdw => false,
+            ItsPayloadWord::Tdt => false,
+            ItsPayloadWord::Ddw0 => false,
+        }
+    }
+
+    // A TDH of any of its three kinds.
+    pub fn is_tdh(self) -> bool
+        ensures { λ r. ⌜ r ≡ isTdh self ⌝ }
+    {
+        match self {
+            ItsPayloadWord::Ihw => false,
+            ItsPayloadWord::IhwContinuation => false,
+            ItsPayloadWord::Tdh => true,
+            ItsPayloadWord::TdhAfterPacketDone => true,
+            ItsPayloadWord::TdhContinuation => true,
+            ItsPayloadWord::DataWord => false,
+            ItsPayloadWord::Cdw => false,
+            ItsPayloadWord::Tdt => false,
+            ItsPayloadWord::Ddw0 => false,
+        }
+    }
+
+    // A data word or CDW.
+    pub fn is_data(self) -> bool
+        ensures { λ r. ⌜ r ≡ isData self ⌝ }
+    {
+        match self {
+            ItsPayloadWord::Ihw => false,
+            ItsPayloadWord::IhwContinuation => false,
+            ItsPayloadWord::Tdh => false,
+            ItsPayloadWord::TdhAfterPacketDone => false,
+            ItsPayloadWord::TdhContinuation => false,
+            ItsPayloadWord::DataWord => true,
+            ItsPayloadWord::Cdw => true,
+            ItsPayloadWord::Tdt => false,
+            ItsPayloadWord::Ddw0 => false,
+        }
+    }
+
+    // A TDT.
+    pub fn is_tdt(self) -> bool
+        ensures { λ r. ⌜ r ≡ isTdt self ⌝ }
+    {
+        match self {
+            ItsPayloadWord::Ihw => false,
+            ItsPayloadWord::IhwContinuation => false,
+            ItsPayloadWord::Tdh => false,
+            ItsPayloadWord::TdhAfterPacketDone => false,
+            ItsPayloadWord::TdhContinuation => false,
+            ItsPayloadWord::DataWord => false,
+            ItsPayloadWord::Cdw => false,
+            ItsPayloadWord::Tdt => true,
+            ItsPayloadWord::Ddw0 => false,
+        }
     }
 }
 

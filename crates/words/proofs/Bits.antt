@@ -61,3 +61,8 @@ both-halves h l w low high =
     ∙ mod-pow-add (value w / 2 ^ l) (h + 1 - 64) (64 - l)
     ∙ ap (λ (n : ℕ). n % 2 ^ (h + 1 - 64) * 2 ^ (64 - l) + (value w / 2 ^ l) % 2 ^ (64 - l)) (shr-shr (value w) l (64 - l) ∙ ap (λ (k : ℕ). value w / 2 ^ k) seam)
     ∙ ap (λ (k : ℕ). (value w / 2 ^ 64) % 2 ^ (h + 1 - 64) * 2 ^ (64 - l) + (value w / 2 ^ l) % 2 ^ k) (sym under)
+
+-- A range of bits is below the power of two that its width gives.
+pub bits-below : (h l : ℕ) (w : Word) → bits h l w < 2 ^ (h + 1 - l)
+unfolding bits
+bits-below h l w = mod-lt (value w / 2 ^ l) (pow-pos (h + 1 - l))

@@ -1,0 +1,3 @@
+pub mod Presence
+pub mod Good
+pub mod Calls

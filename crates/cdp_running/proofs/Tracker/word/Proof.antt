@@ -1,0 +1,52 @@
+-- `Tracker::word` meets its contract: the tests that led to a return say which case of the definition holds.
+-- Assumes nothing.
+use borrow.Author.Needs.{needs}
+use borrow.Author.Tests.{not-true, not-false}
+use denote.Ref.{now}
+use Rattle.cdp_running.proofs.Good.{position-low}
+use Rattle.cdp_running.proofs.Calls.{not-ten, ten, as-written, as-taken, word-1, word-2, word-3, of-word, word-4, word-taken}
+use Rattle.cdp_running.proofs.Tracker.word.Statement.{statement}
+use Rattle.cdp_running.proofs.Tracker.word.Tie as tie
+
+returns : tie.Need-returns
+returns c =
+    let s = c .before .before .before .before .before .before in
+    word-1 (s .args .self) (now (s .args .bytes)) (now (s .args .out)) (s .pre) (not-ten (now (s .args .bytes)) (c .before .before .before .from-buf .ensures) (c .before .enum-told .given .1)) (c .refused .ensures)
+
+returns-2 : tie.Need-returns-2
+returns-2 c =
+    let s = c .before .before .before .before .before .before .before .before .before in
+    let is = ten (now (s .args .bytes)) (c .before .before .before .before .before .before .from-buf .ensures) (c .before .before .before .before .word .given .1) in
+    word-2 (s .args .self) (now (s .args .bytes)) (now (s .args .out)) (s .pre) (is .0) (not-true _ (c .before .if1 .taken)) (c .refused2 .ensures)
+
+returns-3 : tie.Need-returns-3
+returns-3 c =
+    let s = c .before .before .before .before .before .before .before .before .before .before .before in
+    let is = ten (now (s .args .bytes)) (c .before .before .before .before .before .before .before .before .from-buf .ensures) (c .before .before .before .before .before .before .word .given .1) in
+    word-3 (s .args .self) (now (s .args .bytes)) (now (s .args .out)) (s .pre) (is .0) (not-false _ (c .before .before .before .if1 .left)) (c .before .if2 .taken) (c .refused3 .ensures)
+
+position-requires : tie.Need-position-requires
+position-requires c κs = (position-low (c .before .before .before .before .before .before .before .before .before .before .before .before .before .before .args .self .packet) (c .before .before .before .before .before .before .before .before .before .before .before .before .before .before .pre .packet), c .before .before .before .before .before .before .before .before .before .before .before .before .before .before .pre .count)
+
+returns-4 : tie.Need-returns-4
+returns-4 c =
+    let s = c .before .before .before .before .before .before .before .before .before .before .before .before .before .before .before .before .before .before .before .before .before .before in
+    let t = s .args .self in
+    let b = now (s .args .bytes) in
+    let is = ten b (c .before .before .before .before .before .before .before .before .before .before .before .before .before .before .before .before .before .before .before .from-buf .ensures) (c .before .before .before .before .before .before .before .before .before .before .before .before .before .before .before .before .before .word .given .1) in
+    let wrote = as-written t b (c .before .before .before .before .before .before .before .before .before .advance .ensures) (is .1) (c .before .before .before .before .before .before .before .position .ensures) (c .before .before .before .before .before .before .before .before .rows-of .ensures) (c .before .before .before .before .before .write .ensures) in
+    let d = now (s .args .out) in
+    word-4 t b d (s .pre) (is .0) (not-false _ (c .before .before .before .before .before .before .before .before .before .before .before .before .before .before .if1 .left)) (c .before .before .before .before .before .before .before .before .before .before .before .before .if2 .left) (of-word t b d (s .pre) (is .0) (not-false _ (c .before .before .before .before .before .before .before .before .before .before .before .before .before .before .if1 .left)) (c .before .before .before .before .before .before .before .before .before .before .before .before .if2 .left) wrote) (c .before .enum-told2 .given .1) (c .refused4 .ensures)
+
+returns-5 : tie.Need-returns-5
+returns-5 c =
+    let s = c .before .before .before .before .before .before .before .before .before .before .before .before .before .before .before .before .before .before .before .before .before .before .before in
+    let t = s .args .self in
+    let b = now (s .args .bytes) in
+    let is = ten b (c .before .before .before .before .before .before .before .before .before .before .before .before .before .before .before .before .before .before .before .before .from-buf .ensures) (c .before .before .before .before .before .before .before .before .before .before .before .before .before .before .before .before .before .before .word .given .1) in
+    let wrote = as-written t b (c .before .before .before .before .before .before .before .before .before .before .advance .ensures) (is .1) (c .before .before .before .before .before .before .before .before .position .ensures) (c .before .before .before .before .before .before .before .before .before .rows-of .ensures) (c .before .before .before .before .before .before .write .ensures) in
+    let d = now (s .args .out) in
+    word-taken t b d (s .pre) (is .0) (not-false _ (c .before .before .before .before .before .before .before .before .before .before .before .before .before .before .before .if1 .left)) (c .before .before .before .before .before .before .before .before .before .before .before .before .before .if2 .left) (of-word t b d (s .pre) (is .0) (not-false _ (c .before .before .before .before .before .before .before .before .before .before .before .before .before .before .before .if1 .left)) (c .before .before .before .before .before .before .before .before .before .before .before .before .before .if2 .left) wrote) (c .before .before .n .given .1) (as-taken t b (c .before .before .before .before .before .before .before .before .before .before .advance .ensures) (is .1) (c .taken .ensures))
+
+pub word-spec : {M : Type 1} → statement M
+word-spec = tie.close (tie.spec (λ c. search needs) (λ c. search needs) (λ c. search needs) (λ c. search needs) returns (λ c. search needs) returns-2 (λ c. search needs) returns-3 (λ c. search needs) (λ c. search needs) position-requires (λ c. search needs) (λ c. search needs) (λ c. search needs) (λ c. search needs) (λ c. search needs) returns-4 (λ c. search needs) (λ c. search needs) returns-5)

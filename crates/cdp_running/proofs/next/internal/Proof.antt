@@ -1,0 +1,14 @@
+-- `next::internal` meets its contract.
+-- Assumes nothing.
+use borrow.Author.Needs.{needs}
+use Rattle.cdp_running.proofs.next.internal.Statement.{statement}
+use Rattle.cdp_running.proofs.next.internal.Tie as tie
+
+returns : tie.Need-returns
+returns c = simp (← c .before .before .before .is-tdh .ensures, ← c .before .before .internal-trigger .ensures, c .before .if1 .taken, c .trigger-bc .ensures)
+
+returns-2 : tie.Need-returns-2
+returns-2 c = simp (← c .before .before .is-tdh .ensures, ← c .before .internal-trigger .ensures, c .if1 .left)
+
+pub internal-spec : {M : Type 1} → statement M
+internal-spec = tie.close (tie.spec (λ c. search needs) (λ c. search needs) (λ c. search needs) returns returns-2)

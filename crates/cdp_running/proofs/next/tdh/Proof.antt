@@ -1,0 +1,14 @@
+-- `next::tdh` meets its contract.
+-- Assumes nothing.
+use borrow.Author.Needs.{needs}
+use Rattle.cdp_running.proofs.next.tdh.Statement.{statement}
+use Rattle.cdp_running.proofs.next.tdh.Tie as tie
+
+returns : tie.Need-returns
+returns c = simp (← c .before .before .before .before .is-tdh .ensures, c .before .before .before .if1 .taken, c .before .before .trigger-type .ensures, c .before .trigger-bc .ensures, c .trigger-orbit .ensures)
+
+returns-2 : tie.Need-returns-2
+returns-2 c = simp (← c .before .is-tdh .ensures, c .if1 .left)
+
+pub tdh-spec : {M : Type 1} → statement M
+tdh-spec = tie.close (tie.spec (λ c. search needs) (λ c. search needs) (λ c. search needs) (λ c. search needs) returns returns-2)

@@ -1,0 +1,101 @@
+-- 01, "Calls and settings": one word call, its refusals in their order, its records, its answer, and what the buffer then holds.
+-- Assumes nothing.
+use Prim.Native.Nat.{ℕ}
+use mathlib.Core.Path.{_≡_}
+use mathlib.Core.Bool.{Bool, cond}
+use mathlib.Core.List.{List, []}
+use lib.Dec.{leb, eqb}
+use lib.ListN.{length}
+use Rattle.words.specs.declared.Word.{Word}
+use Rattle.words.specs.Word.{wordBytes, wordOf}
+use Rattle.payload_fsm.specs.declared.ItsPayloadWord.{ItsPayloadWord}
+use Rattle.payload_fsm.specs.declared.ItsPayloadWord.the-variants as K
+use Rattle.payload_fsm.specs.declared.Advanced.{Advanced}
+use Rattle.payload_fsm.specs.Step.{advanceOf}
+use Rattle.records.specs.declared.Row.{Row}
+use Rattle.records.specs.Records.{Record, given, flat, room, over, exceed}
+use Rattle.validators.specs.Ihw as Ihw
+use Rattle.validators.specs.Tdh as Tdh
+use Rattle.validators.specs.Tdt as Tdt
+use Rattle.validators.specs.Ddw as Ddw
+use Rattle.validators.specs.DataWords as DataWords
+use Rattle.cdp_running.specs.declared.Tracker.{Tracker}
+use Rattle.cdp_running.specs.declared.FrameTold.{FrameTold}
+use Rattle.cdp_running.specs.declared.Told.the-variants.{Taken, Refused}
+use Rattle.cdp_running.specs.declared.WordAnswer.{WordAnswer}
+use Rattle.cdp_running.specs.Tracker.{Good, maxWords, positionOf}
+use Rattle.cdp_running.specs.Next.{nextOf, frameTold, lanesTold}
+
+-- What a word is taken as.
+abbrev pub takenAs : Tracker → Word → Advanced
+takenAs t w = advanceOf (t .fsm .state) w
+
+-- The rows of a word by what it was taken as.
+abbrev pub rowsAs : ItsPayloadWord → Bool → Tracker → Word → List Row
+rowsAs K.Ihw guessed t w = Ihw.ihwRows (t .settings) (t .packet) w
+rowsAs K.IhwContinuation guessed t w = Ihw.continuationRows w
+rowsAs K.Tdh guessed t w = Tdh.tdhRows (t .settings) (t .packet) (t .internal) w
+rowsAs K.TdhAfterPacketDone guessed t w = Tdh.afterPacketDoneRows (t .settings) (t .tdh) (t .internal) w
+rowsAs K.TdhContinuation guessed t w = Tdh.continuationRows (t .settings) (t .tdh) w
+rowsAs K.DataWord guessed t w = DataWords.dataRows (t .settings) (t .seen) (t .ihw .lanes) (t .cdw) guessed w
+rowsAs K.Cdw guessed t w = DataWords.dataRows (t .settings) (t .seen) (t .ihw .lanes) (t .cdw) guessed w
+rowsAs K.Tdt guessed t w = Tdt.tdtRows (t .settings) (t .frame .live) w
+rowsAs K.Ddw0 guessed t w = Ddw.ddw0Rows (t .settings) (t .packet) guessed w
+
+abbrev pub rowsOf : Tracker → Advanced → Word → List Row
+rowsOf t a w = rowsAs (a .word) (a .guessed) t w
+
+-- Where the next word stands, and the records that it gives.
+abbrev pub positionNow : Tracker → ℕ
+positionNow t = positionOf (t .packet) (t .count)
+
+unfoldable pub recordsOf : Tracker → Word → List Record
+recordsOf t w = given (positionNow t) (rowsOf t (takenAs t w) w)
+
+-- What a word call comes to: the word is taken, with the tracker after it and all that is told of it, or it is refused by a number.
+pub data Outcome : Type 0 where
+  taken : Tracker → ItsPayloadWord → Bool → List Record → FrameTold → ℕ → Outcome
+  refused : ℕ → Outcome
+
+abbrev pub takenAnswer : Tracker → Advanced → Word → ℕ → WordAnswer
+takenAnswer t a w records =
+    record {
+      tracker = nextOf t a w;
+      told =
+          Taken (a .word) (a .guessed) records (frameTold (t .settings .frames) (a .word) w (positionNow t) (t .frame))
+          (lanesTold (a .word) w);
+    }
+
+unfoldable pub takenOf : Tracker → Word → Outcome
+takenOf t w =
+    let a = takenAs t w in
+    taken (nextOf t a w) (a .word) (a .guessed) (recordsOf t w) (frameTold (t .settings .frames) (a .word) w (positionNow t) (t .frame))
+    (lanesTold (a .word) w)
+
+-- "Word order: 1, 2, 3, 4." Given exactly when: "word not 10 bytes", "no packet accepted yet", "4,096 words taken in this packet", "this word's records
+-- exceed the buffer's room".
+unfoldable pub wordCall : Tracker → List ℕ → ℕ → Outcome
+wordCall t bytes places =
+    cond (eqb (length bytes) wordBytes)
+    (cond (t .accepted)
+    (cond (leb maxWords (t .count)) (refused 3)
+    (cond (exceed (recordsOf t (wordOf bytes)) places) (refused 4) (takenOf t (wordOf bytes))))
+    (refused 2))
+    (refused 1)
+
+-- The answer: "A refusal returns its number and zeros", and the tracker as it was.
+abbrev pub answerOf : Tracker → Outcome → WordAnswer
+answerOf t (taken next kind guessed records frame lanes) =
+    record { tracker = next; told = Taken kind guessed (length records) frame lanes }
+answerOf t (refused n) = record { tracker = t; told = Refused n }
+
+-- The records that stand in the buffer, and the tracker after the call.
+abbrev pub recordsIn : Outcome → List Record
+recordsIn (taken next kind guessed records frame lanes) = records
+recordsIn (refused n) = []
+
+-- What a word call gives, from the tracker, the bytes and the buffer.
+pub record WordPost (t : Tracker) (bytes buffer : List ℕ) (r : WordAnswer) (after : List ℕ) : Type 0 where
+  pub answer : r ≡ answerOf t (wordCall t bytes (room buffer))
+  pub buffer-is : after ≡ over (flat (recordsIn (wordCall t bytes (room buffer)))) buffer
+  pub good : Good (r .tracker)

@@ -1,0 +1,277 @@
+// The tracker and its calls: start, packet, word, reset. The call for a whole payload stands above, in the crate payload.
+// Document 01, "Calls and settings" and "Records"; the Rust's cdp_running.rs.
+ghost use mathlib.Core.Path.{_≡_};
+ghost use Prim.Native.Nat.{_≤_};
+ghost use Rattle.records.specs.Records.{padded};
+ghost use Rattle.cdp_running.specs.Tracker.{Good, settingsOf, startOf, resetOf, PacketPost, maxPosition, maxWords, positionOf};
+ghost use Rattle.cdp_running.specs.Word.{rowsOf, Outcome, answerOf, WordPost};
+
+mod next;
+
+use payload_fsm::Advanced;
+use payload_fsm::ItsPayloadFsmContinuous;
+use payload_fsm::ItsPayloadWord;
+use records::Row;
+use records::Written;
+use validators::InternalTdh;
+use validators::Packet;
+use validators::Settings;
+use validators::StoredCdw;
+use validators::StoredTdh;
+use words::FromBuf;
+use words::Word;
+
+// Words that a packet takes.
+pub const MAX_WORDS: u16 = 4096;
+
+// The largest position of a packet, 2^62.
+pub const MAX_POSITION: u64 = 0x4000_0000_0000_0000;
+
+// The largest BC of a packet.
+pub const MAX_PACKET_BC: u16 = 4095;
+
+// Refusals of these calls, beside Word::REFUSED_SIZE.
+pub const REFUSED_NO_PACKET: u8 = 2;
+
+pub const REFUSED_FULL: u8 = 3;
+
+pub const REFUSED_ROOM: u8 = 4;
+
+pub const REFUSED_PACKET: u8 = 5;
+
+// Of the IHW stored last, what is read again.
+pub struct StoredIhw {
+    pub stored: bool,
+    pub lanes: u32,
+}
+
+// Whether a frame is open, and where it started.
+pub struct Frame {
+    pub live: bool,
+    pub start: u64,
+}
+
+// All that is kept from one call to the next. What is absent is all zeros.
+pub struct Tracker {
+    pub settings: Settings,
+    pub accepted: bool,
+    pub packet: Packet,
+    pub fsm: ItsPayloadFsmContinuous,
+    pub count: u16,
+    pub seen: bool,
+    pub ihw: StoredIhw,
+    pub tdh: StoredTdh,
+    pub internal: InternalTdh,
+    pub cdw: StoredCdw,
+    pub frame: Frame,
+}
+
+// What a word did to the frame.
+pub enum FrameTold {
+    Nothing,
+    Opened,
+    Closed { start: u64, end: u64 },
+}
+
+// What a word call tells: of a word that was taken, or the number of the refusal.
+pub enum Told {
+    Taken {
+        kind: ItsPayloadWord,
+        guessed: bool,
+        records: u64,
+        frame: FrameTold,
+        lanes: u32,
+    },
+    Refused(u8),
+}
+
+pub struct WordAnswer {
+    pub tracker: Tracker,
+    pub told: Told,
+}
+
+// Refusal 0: the packet was accepted.
+pub struct PacketAnswer {
+    pub tracker: Tracker,
+    pub refusal: u8,
+}
+
+// Where the word after so many stands.
+fn position(packet: Packet, taken: u16) -> u64
+    requires { ⌜ packet .position ≤ maxPosition ⌝ }
+    requires { ⌜ taken ≤ maxWords ⌝ }
+    ensures { λ r. ⌜ r ≡ positionOf packet taken ⌝ }
+{
+    let first = packet.position + 64;
+    if packet.format == 0 {
+        first + (taken as u64) * 16
+    } else {
+        first + (taken as u64) * 10
+    }
+}
+
+// The rows of a word, by what it was taken as.
+fn rows_of(t: Tracker, a: Advanced, word: Word) -> [Row; 6]
+    ensures { λ r. ⌜ r ≡ padded (rowsOf t a word) ⌝ }
+{
+    let settings = t.settings;
+    let packet = t.packet;
+    let previous = t.tdh;
+    let earlier = t.internal;
+    let ihw = t.ihw;
+    let cdw = t.cdw;
+    let frame = t.frame;
+    let kind = a.word;
+    match kind {
+        ItsPayloadWord::Ihw => validators::ihw::check_at_initial_ihw(settings, packet, word),
+        ItsPayloadWord::IhwContinuation => validators::ihw::check_continuation(word),
+        ItsPayloadWord::Tdh => {
+            validators::tdh::check_tdh_no_continuation(settings, packet, earlier, word)
+        }
+        ItsPayloadWord::TdhAfterPacketDone => {
+            validators::tdh::check_after_tdt_packet_done_true(settings, previous, earlier, word)
+        }
+        ItsPayloadWord::TdhContinuation => {
+            validators::tdh::check_continuation(settings, previous, word)
+        }
+        ItsPayloadWord::DataWord => {
+            validators::data_words::check(settings, t.seen, ihw.lanes, cdw, a.guessed, word)
+        }
+        ItsPayloadWord::Cdw => {
+            validators::data_words::check(settings, t.seen, ihw.lanes, cdw, a.guessed, word)
+        }
+        ItsPayloadWord::Tdt => validators::tdt::check(settings, frame.live, word),
+        ItsPayloadWord::Ddw0 => {
+            validators::ddw::check_at_ddw0(settings, packet, a.guessed, word)
+        }
+    }
+}
+
+// The settings as they are kept: a period that is absent is 0.
+fn fixed(settings: Settings) -> Settings
+    ensures { λ r. ⌜ r ≡ settingsOf settings ⌝ }
+{
+    if settings.periodic {
+        settings
+    } else {
+        let mut kept = settings;
+        kept.period = 0;
+        kept
+    }
+}
+
+fn refused(t: Tracker, n: u8) -> WordAnswer
+    ensures { λ r. ⌜ r ≡ answerOf t (Outcome.refused n) ⌝ }
+{
+    WordAnswer {
+        tracker: t,
+        told: Told::Refused(n),
+    }
+}
+
+impl Tracker {
+    // The start: nothing stored, in the start state, with no packet. A period that is absent counts as 0.
+    pub fn start(settings: Settings) -> Tracker
+        ensures { λ r. ⌜ (r ≡ startOf settings) × Good r ⌝ }
+    {
+        Tracker {
+            settings: fixed(settings),
+            accepted: false,
+            packet: Packet {
+                position: 0,
+                orbit: 0,
+                trigger: 0,
+                bc: 0,
+                page: 0,
+                stop: 0,
+                format: 0,
+            },
+            fsm: ItsPayloadFsmContinuous::new(),
+            count: 0,
+            seen: false,
+            ihw: StoredIhw {
+                stored: false,
+                lanes: 0,
+            },
+            tdh: StoredTdh {
+                stored: false,
+                kind: 0,
+                bc: 0,
+                orbit: 0,
+            },
+            internal: InternalTdh {
+                stored: false,
+                bc: 0,
+            },
+            cdw: StoredCdw {
+                stored: false,
+                user: 0,
+            },
+            frame: Frame {
+                live: false,
+                start: 0,
+            },
+        }
+    }
+
+    // A packet: where its words stand and what they are checked against. Refusal 5 leaves everything.
+    pub fn packet(self, packet: Packet) -> PacketAnswer
+        requires { ⌜ Good self ⌝ }
+        ensures { λ r. ⌜ PacketPost self packet r ⌝ }
+    {
+        let fits = (packet.position <= MAX_POSITION)
+            & ((packet.bc <= MAX_PACKET_BC) & ((packet.format == 0) | (packet.format == 2)));
+        if !fits {
+            return PacketAnswer {
+                tracker: self,
+                refusal: REFUSED_PACKET,
+            };
+        }
+        let mut t = self;
+        t.accepted = true;
+        t.packet = packet;
+        t.count = 0;
+        t.seen = false;
+        PacketAnswer {
+            tracker: t,
+            refusal: 0,
+        }
+    }
+
+    // Back to the start state. All else is kept.
+    pub fn reset(self) -> Tracker
+        requires { ⌜ Good self ⌝ }
+        ensures { λ r. ⌜ (r ≡ resetOf self) × Good r ⌝ }
+    {
+        let fsm = self.fsm;
+        let start = fsm.reset_fsm();
+        let mut t = self;
+        t.fsm = start;
+        t
+    }
+
+    // One word: its records stand at the front of out, whose rest stays. A refusal leaves both.
+    pub fn word(self, bytes: &[u8], out: &mut [u64]) -> WordAnswer
+        requires { ⌜ Good self ⌝ }
+        ensures { λ r. ⌜ WordPost self (now (bytes .entry)) (now (out .entry)) r (now (out .exit)) ⌝ }
+    {
+        let FromBuf::Is(word) = Word::from_buf(bytes) else {
+            return refused(self, Word::REFUSED_SIZE);
+        };
+        if !self.accepted {
+            return refused(self, REFUSED_NO_PACKET);
+        }
+        if self.count >= MAX_WORDS {
+            return refused(self, REFUSED_FULL);
+        }
+        let packet = self.packet;
+        let fsm = self.fsm;
+        let a = fsm.advance(word);
+        let rows = rows_of(self, a, word);
+        let here = position(packet, self.count);
+        let Written::Records(n) = records::write(out, here, rows) else {
+            return refused(self, REFUSED_ROOM);
+        };
+        next::taken(self, a, word, here, n)
+    }
+}
