@@ -2,7 +2,7 @@
 -- Assumes nothing.
 use Prim.Native.Nat.{ℕ, _+_, _*_, _≤_, _<_, _^_}
 use mathlib.Core.Path.{_≡_, refl, sym, ap, _∙_}
-use mathlib.Core.Bool.{Bool, true, false, cond, not, _&&_, _||_, true≢false}
+use mathlib.Core.Bool.{Bool, true, false, cond, not, _&&_, _||_, and-false, true≢false}
 use native.Mathlib.Nat.{mul-le-mul-left}
 use native.Mathlib.Omega.{arith}
 use lib.Dec.{leb, ltb, eqb}
@@ -148,7 +148,7 @@ good-frame : (frames : Bool) (kind : ItsPayloadWord) (w : Word) (position : ℕ)
 good-frame true kind w position old h g =
     choice (GoodFrame true) (opens true kind w old) (record { start = h; absent = λ e. clash e; off = λ e. clash e })
     (choice (GoodFrame true) (closes true kind w) (record { start = omega arith; absent = λ _. refl; off = λ _. refl }) g)
-good-frame false kind w position old h g = g
+good-frame false kind w position old h g = simp and-false g
 
 -- What was taken is stored, and what was stored stays.
 kept-ihw : (kind : ItsPayloadWord) (w : Word) (old : StoredIhw) (after : Bool) → (after ≡ true → old .stored ≡ true)

@@ -41,15 +41,15 @@ nextCdw kind seen w old = cond (isData kind && firstCdw seen w) (record { stored
 
 -- "Data is then seen."
 abbrev pub nextSeen : ItsPayloadWord → Bool → Bool
-nextSeen kind seen = seen || isData kind
+nextSeen kind seen = isData kind || seen
 
 -- "Frames on, none open, continuation 0: opened here."
 abbrev pub opens : Bool → ItsPayloadWord → Word → Frame → Bool
-opens frames kind w f = frames && (isTdh kind && (not (f .live) && eqb (continuation w) 0))
+opens frames kind w f = isTdh kind && (frames && (not (f .live) && eqb (continuation w) 0))
 
 -- "Frames on and packet done: an open frame closes here"
 abbrev pub closes : Bool → ItsPayloadWord → Word → Bool
-closes frames kind w = frames && (isTdt kind && packetDone w)
+closes frames kind w = isTdt kind && (frames && packetDone w)
 
 abbrev pub nextFrame : Bool → ItsPayloadWord → Word → ℕ → Frame → Frame
 nextFrame frames kind w position f =

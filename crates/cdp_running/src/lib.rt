@@ -272,6 +272,6 @@ impl Tracker {
         let Written::Records(n) = records::write(out, here, rows) else {
             return refused(self, REFUSED_ROOM);
         };
-        next::taken(self, a, word, here, n)
+        next::taken(self, a, word, n)
     }
 }

@@ -1,8 +1,7 @@
 // The tracker after a word, each part by itself, and what the word call tells. 01, "Records": what is stored where.
 ghost use mathlib.Core.Path.{_≡_};
-ghost use Prim.Native.Nat.{_<_};
-ghost use Rattle.cdp_running.specs.Tracker.{maxWords};
-ghost use Rattle.cdp_running.specs.Word.{positionNow, takenAnswer};
+ghost use Rattle.cdp_running.specs.Tracker.{Good};
+ghost use Rattle.cdp_running.specs.Word.{takenAnswer};
 ghost use Rattle.cdp_running.specs.Next.{nextIhw, nextTdh, nextInternal, nextCdw, opens, closes, nextFrame, frameTold, lanesTold, nextOf};
 use crate::Frame;
 use crate::FrameTold;
@@ -10,6 +9,7 @@ use crate::StoredIhw;
 use crate::Told;
 use crate::Tracker;
 use crate::WordAnswer;
+use crate::position;
 use payload_fsm::Advanced;
 use payload_fsm::ItsPayloadWord;
 use validators::InternalTdh;
@@ -89,7 +89,7 @@ fn opens(frames: bool, kind: ItsPayloadWord, word: Word, frame: Frame) -> bool
     let tdh = Tdh { word: word };
     let is_tdh = kind.is_tdh();
     let continuation = tdh.continuation();
-    frames & (is_tdh & (!frame.live & (continuation == 0)))
+    is_tdh & (frames & (!frame.live & (continuation == 0)))
 }
 
 fn closes(frames: bool, kind: ItsPayloadWord, word: Word) -> bool
@@ -98,7 +98,7 @@ fn closes(frames: bool, kind: ItsPayloadWord, word: Word) -> bool
     let tdt = Tdt { word: word };
     let is_tdt = kind.is_tdt();
     let done = tdt.packet_done();
-    frames & (is_tdt & done)
+    is_tdt & (frames & done)
 }
 
 fn frame(frames: bool, kind: ItsPayloadWord, word: Word, position: u64, old: Frame) -> Frame
@@ -152,47 +152,50 @@ fn lanes_told(kind: ItsPayloadWord, word: Word) -> u32
     }
 }
 
-// The tracker after a word that was taken.
-fn tracker(t: Tracker, a: Advanced, word: Word, position: u64) -> Tracker
-    requires { ⌜ t .count < maxWords ⌝ }
-    requires { ⌜ position ≡ positionNow t ⌝ }
-    ensures { λ r. ⌜ r ≡ nextOf t a word ⌝ }
-{
-    let kind = a.word;
-    let settings = t.settings;
-    let packet = t.packet;
-    let fsm = a.fsm;
-    let is_data = kind.is_data();
-    Tracker {
-        settings: settings,
-        accepted: t.accepted,
-        packet: packet,
-        fsm: fsm,
-        count: t.count + 1,
-        seen: t.seen | is_data,
-        ihw: ihw(kind, word, t.ihw),
-        tdh: tdh(kind, word, t.tdh),
-        internal: internal(kind, word, t.internal),
-        cdw: cdw(kind, t.seen, word, t.cdw),
-        frame: frame(settings.frames, kind, word, position, t.frame),
+impl Tracker {
+    // The tracker after a word that is taken as `a` says.
+    pub fn after(self, a: Advanced, word: Word) -> Tracker
+        requires { ⌜ Good self ⌝ }
+        ensures { λ r. ⌜ r ≡ nextOf self a word ⌝ }
+    {
+        let kind = a.word;
+        let settings = self.settings;
+        let packet = self.packet;
+        let fsm = a.fsm;
+        let here = position(packet, self.count);
+        let is_data = kind.is_data();
+        Tracker {
+            settings: settings,
+            accepted: self.accepted,
+            packet: packet,
+            fsm: fsm,
+            count: self.count + 1,
+            seen: is_data | self.seen,
+            ihw: ihw(kind, word, self.ihw),
+            tdh: tdh(kind, word, self.tdh),
+            internal: internal(kind, word, self.internal),
+            cdw: cdw(kind, self.seen, word, self.cdw),
+            frame: frame(settings.frames, kind, word, here, self.frame),
+        }
     }
 }
 
 // The answer of a word that was taken, with so many records.
-pub(crate) fn taken(t: Tracker, a: Advanced, word: Word, position: u64, records: u64) -> WordAnswer
-    requires { ⌜ t .count < maxWords ⌝ }
-    requires { ⌜ position ≡ positionNow t ⌝ }
+pub(crate) fn taken(t: Tracker, a: Advanced, word: Word, records: u64) -> WordAnswer
+    requires { ⌜ Good t ⌝ }
     ensures { λ r. ⌜ r ≡ takenAnswer t a word records ⌝ }
 {
     let kind = a.word;
     let settings = t.settings;
+    let packet = t.packet;
+    let here = position(packet, t.count);
     WordAnswer {
-        tracker: tracker(t, a, word, position),
+        tracker: t.after(a, word),
         told: Told::Taken {
             kind: kind,
             guessed: a.guessed,
             records: records,
-            frame: frame_told(settings.frames, kind, word, position, t.frame),
+            frame: frame_told(settings.frames, kind, word, here, t.frame),
             lanes: lanes_told(kind, word),
         },
     }

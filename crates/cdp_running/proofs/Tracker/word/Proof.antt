@@ -28,6 +28,9 @@ returns-3 c =
 position-requires : tie.Need-position-requires
 position-requires c κs = (position-low (c .before .before .before .before .before .before .before .before .before .before .before .before .before .before .args .self .packet) (c .before .before .before .before .before .before .before .before .before .before .before .before .before .before .pre .packet), c .before .before .before .before .before .before .before .before .before .before .before .before .before .before .pre .count)
 
+taken-requires : tie.Need-taken-requires
+taken-requires c κs = c .before .before .before .before .before .before .before .before .before .before .before .before .before .before .before .before .before .before .before .before .before .before .pre
+
 returns-4 : tie.Need-returns-4
 returns-4 c =
     let s = c .before .before .before .before .before .before .before .before .before .before .before .before .before .before .before .before .before .before .before .before .before .before in
@@ -49,4 +52,4 @@ returns-5 c =
     word-taken t b d (s .pre) (is .0) (not-false _ (c .before .before .before .before .before .before .before .before .before .before .before .before .before .before .before .if1 .left)) (c .before .before .before .before .before .before .before .before .before .before .before .before .before .if2 .left) (of-word t b d (s .pre) (is .0) (not-false _ (c .before .before .before .before .before .before .before .before .before .before .before .before .before .before .before .if1 .left)) (c .before .before .before .before .before .before .before .before .before .before .before .before .before .if2 .left) wrote) (c .before .before .n .given .1) (as-taken t b (c .before .before .before .before .before .before .before .before .before .before .advance .ensures) (is .1) (c .taken .ensures))
 
 pub word-spec : {M : Type 1} → statement M
-word-spec = tie.close (tie.spec (λ c. search needs) (λ c. search needs) (λ c. search needs) (λ c. search needs) returns (λ c. search needs) returns-2 (λ c. search needs) returns-3 (λ c. search needs) (λ c. search needs) position-requires (λ c. search needs) (λ c. search needs) (λ c. search needs) (λ c. search needs) (λ c. search needs) returns-4 (λ c. search needs) (λ c. search needs) returns-5)
+word-spec = tie.close (tie.spec (λ c. search needs) (λ c. search needs) (λ c. search needs) (λ c. search needs) returns (λ c. search needs) returns-2 (λ c. search needs) returns-3 (λ c. search needs) (λ c. search needs) position-requires (λ c. search needs) (λ c. search needs) (λ c. search needs) (λ c. search needs) (λ c. search needs) returns-4 taken-requires (λ c. search needs) returns-5)
