@@ -1,3 +1,4 @@
 pub mod Presence
 pub mod Good
 pub mod Calls
+pub mod Outcome

@@ -82,3 +82,13 @@ empty position (suc n) = empty position n
 
 pub given-padded : (position : ℕ) (rows : List Row) → given position (padded rows) ≡ given position rows
 given-padded position rows = given-append position rows (replicate (mostRecords - length rows) none) ∙ ap (λ (l : List Record). given position rows ++ l) (empty position (mostRecords - length rows)) ∙ append-nil (given position rows)
+
+-- Nor do they change whether there is one.
+off : (rows : List Row) (n : ℕ) → anyOn (rows ++ replicate n none) ≡ anyOn rows
+unfolding anyOn
+off [] zero = refl
+off [] (suc n) = off [] n
+off (row ∷ rows) n = ap (λ (b : Bool). row .on || b) (off rows n)
+
+pub silent-padded : (rows : List Row) → silent (padded rows) ≡ silent rows
+silent-padded rows = ap not (off rows (mostRecords - length rows))

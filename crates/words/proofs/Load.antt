@@ -1,11 +1,13 @@
 -- A word as it is loaded: the number that ten bytes are, byte by byte.
 -- Assumes nothing.
 use Prim.Native.Nat.{ℕ, zero, suc, _+_, _*_, _<_, _≤_, _^_}
-use mathlib.Core.Path.{_≡_, refl, ap}
+use mathlib.Core.Path.{_≡_, refl, ap, _∙_}
 use mathlib.Core.List.{List, [], _∷_}
 use native.Mathlib.Nat.{le-of-eq}
 use native.Mathlib.Omega.{arith}
-use lib.ListN.{length, getD, drop, drop-of-length-le}
+use lib.Dec.{lit<}
+use lib.ListN.{length, getD, take, drop, length-drop, drop-of-length-le}
+use lib.Seq.{length-take-le, getD-take, getD-drop}
 use Rattle.words.specs.declared.Word.{Word}
 use Rattle.words.specs.Word.{number, wordOf, value, idOf, bits}
 
@@ -57,3 +59,17 @@ id-byte b e byte =
     let n = number-ten b e in
     let w = whole b e byte in
     omega (arith, byte 0, byte 1, byte 2, byte 3, byte 4, byte 5, byte 6, byte 7, byte 8, byte 9)
+
+-- The id of the word at a place of bytes is the byte nine further on.
+cut : (n : ℕ) (b : List ℕ) → ((i : ℕ) → getD b i 0 < 256) → (i : ℕ) → getD (take n b) i 0 < 256
+cut zero b byte i = omega arith
+cut (suc n) [] byte i = omega arith
+cut (suc n) (x ∷ xs) byte zero = byte 0
+cut (suc n) (x ∷ xs) byte (suc i) = cut n xs (λ j. byte (suc j)) i
+
+pub id-at : (b : List ℕ) (at : ℕ) → at + 10 ≤ length b → ((i : ℕ) → getD b i 0 < 256) → idOf (wordOf (take 10 (drop at b))) ≡ getD b (at + 9) 0
+id-at b at h byte =
+    let long : length (take 10 (drop at b)) ≡ 10 = length-take-le 10 (drop at b) (simp length-drop (omega arith)) in
+    id-byte (take 10 (drop at b)) long (cut 10 (drop at b) (λ i. rw (getD-drop at b i 0) (byte (at + i))))
+    ∙ getD-take 10 (drop at b) 9 0 (lit< tt)
+    ∙ getD-drop at b 9 0

@@ -18,3 +18,7 @@ from rule (suc n) i (suc k) h = from rule n (suc i) k (le-of-suc-le-suc h) ∙ a
 
 pub entry : (rule : ℕ → ℕ) (n k : ℕ) → k < n → getD (values rule n 0) k 0 ≡ rule k
 entry rule n k h = from rule n 0 k h ∙ ap rule (zero-add k)
+
+-- Two rules whose values antt computes to the same list agree there.
+pub agree : (one other : ℕ → ℕ) (n : ℕ) → values one n 0 ≡ values other n 0 → (k : ℕ) → k < n → one k ≡ other k
+agree one other n e k h = sym (entry one n k h) ∙ ap (λ (l : List ℕ). getD l k 0) e ∙ entry other n k h

@@ -1,0 +1,56 @@
+-- When a word is taken, and what it then comes to; which refusal is given when.
+-- Assumes nothing.
+use Prim.Native.Nat.{ℕ, _≤_, _<_}
+use mathlib.Core.Path.{_≡_, refl, sym, ap, _∙_}
+use mathlib.Core.Bool.{Bool, true, false, cond}
+use mathlib.Core.List.{List}
+use lib.Dec.{leb, eqb}
+use lib.ListN.{length}
+use borrow.Author.Tests.{eqb-true, leb-false, eq-eqb, lt-leb}
+use Rattle.words.specs.Word.{wordOf}
+use Rattle.payload_fsm.specs.declared.ItsPayloadWord.{ItsPayloadWord}
+use Rattle.records.specs.Records.{Record, exceed}
+use Rattle.cdp_running.specs.declared.Tracker.{Tracker}
+use Rattle.cdp_running.specs.declared.FrameTold.{FrameTold}
+use Rattle.cdp_running.specs.Tracker.{maxWords}
+use Rattle.cdp_running.specs.Next.{nextOf}
+use Rattle.cdp_running.specs.Word.{takenAs, recordsOf, Outcome, taken, refused, takenOf, wordCall}
+
+-- None of the four refusals holds.
+pub record Admitted (t : Tracker) (bytes : List ℕ) (places : ℕ) : Type 0 where
+  pub ten : length bytes ≡ 10
+  pub accepted : t .accepted ≡ true
+  pub low : t .count < maxWords
+  pub fits : exceed (recordsOf t (wordOf bytes)) places ≡ false
+
+pub admitted-taken : (t : Tracker) (bytes : List ℕ) (places : ℕ) → Admitted t bytes places → wordCall t bytes places ≡ takenOf t (wordOf bytes)
+unfolding wordCall
+admitted-taken t bytes places a = simp (eq-eqb _ _ (a .ten), a .accepted, lt-leb _ _ (a .low), a .fits)
+
+module _ (t : Tracker) (bytes : List ℕ) (places : ℕ) {next : Tracker} {kind : ItsPayloadWord} {guessed : Bool} {records : List Record} {frame : FrameTold} {lanes : ℕ}
+    (e : wordCall t bytes places ≡ taken next kind guessed records frame lanes) where
+  pub taken-admitted : Admitted t bytes places
+  unfolding wordCall
+  taken-admitted =
+      let a = at (eqb (length bytes) 10) (t .accepted) (leb maxWords (t .count)) (exceed (recordsOf t (wordOf bytes)) places) e in
+      record { ten = eqb-true _ _ (a .0); accepted = a .1 .0; low = leb-false _ _ (a .1 .1 .0); fits = a .1 .1 .1 }
+    where
+      at : (a b c d : Bool)
+          → cond a (cond b (cond c (refused 3) (cond d (refused 4) (takenOf t (wordOf bytes)))) (refused 2)) (refused 1) ≡ taken next kind guessed records frame lanes
+          → (a ≡ true) × ((b ≡ true) × ((c ≡ false) × (d ≡ false)))
+      at true true false false q = (refl, (refl, (refl, refl)))
+      at true true false true q = (cc, (cc, (cc, cc)))
+      at true true true d q = (cc, (cc, (cc, cc)))
+      at true false c d q = (cc, (cc, (cc, cc)))
+      at false b c d q = (cc, (cc, (cc, cc)))
+
+  pub taken-is : takenOf t (wordOf bytes) ≡ taken next kind guessed records frame lanes
+  taken-is = sym (admitted-taken t bytes places taken-admitted) ∙ e
+
+  -- The tracker after it, and its records.
+  pub next-is : next ≡ nextOf t (takenAs t (wordOf bytes)) (wordOf bytes)
+  unfolding takenOf
+  next-is = next-of taken-is
+    where
+      next-of : {n n′ : Tracker} {k k′ : ItsPayloadWord} {g g′ : Bool} {r r′ : List Record} {f f′ : FrameTold} {l l′ : ℕ} → taken n k g r f l ≡ taken n′ k′ g′ r′ f′ l′ → n′ ≡ n
+      next-of q = cc

@@ -1,0 +1,4 @@
+pub mod QuietId
+pub mod Run
+pub mod Stretch
+pub mod Loop

@@ -1,0 +1,58 @@
+-- 01, "Calls and settings": "A payload call does words in order: it hands on the part of the payload after the words already taken, with the part of the
+-- record buffer not yet written, and stops at a refusal, naming words taken, records written and the number. Words taken before the refusal count."
+-- Assumes nothing.
+use Prim.Native.Nat.{ℕ, zero, suc, _+_, _-_, _/_, _%_}
+use mathlib.Core.Path.{_≡_}
+use mathlib.Core.Bool.{Bool, cond}
+use mathlib.Core.List.{List, [], _++_}
+use lib.Dec.{eqb}
+use lib.ListN.{length, take, drop}
+use Rattle.words.specs.Word.{wordBytes}
+use Rattle.records.specs.Records.{Record, flat, room, over}
+use Rattle.cdp_running.specs.declared.Tracker.{Tracker}
+use Rattle.cdp_running.specs.Tracker.{Good}
+use Rattle.cdp_running.specs.Word.{Outcome, taken, refused, wordCall}
+use Rattle.payload.specs.declared.PayloadAnswer.{PayloadAnswer}
+
+-- What words one after the other come to: the tracker after them, how many were taken, their records, and the refusal's number or 0.
+pub record Run : Type 0 where
+  pub tracker : Tracker
+  pub words : ℕ
+  pub records : List Record
+  pub refusal : ℕ
+
+abbrev pub stop : Tracker → ℕ → Run
+stop t n = record { tracker = t; words = 0; records = []; refusal = n }
+
+-- Words and their records, before a run.
+abbrev pub preceded : ℕ → List Record → Run → Run
+preceded words records r =
+    record { tracker = r .tracker; words = words + r .words; records = records ++ r .records; refusal = r .refusal }
+
+-- A word call's outcome, and what comes after a word that was taken.
+abbrev pub onward : Tracker → Outcome → (Tracker → List Record → Run) → Run
+onward t (taken next kind guessed records frame lanes) more = more next records
+onward t (refused n) more = stop t n
+
+-- n words at the front of the bytes, each with the places that those before it left.
+unfoldable pub wordsFrom : ℕ → Tracker → List ℕ → ℕ → Run
+wordsFrom zero t bytes places = stop t 0
+wordsFrom (suc n) t bytes places =
+    onward t (wordCall t (take wordBytes bytes) places)
+    (λ next records. preceded 1 records (wordsFrom n next (drop wordBytes bytes) (places - length records)))
+
+-- "1: payload not a multiple of 10"; "2: no packet accepted yet"; "An empty payload is accepted if a packet is."
+unfoldable pub payloadCall : Tracker → List ℕ → ℕ → Run
+payloadCall t bytes places =
+    cond (eqb (length bytes % wordBytes) 0)
+    (cond (t .accepted) (wordsFrom (length bytes / wordBytes) t bytes places) (stop t 2))
+    (stop t 1)
+
+abbrev pub answerOf : Run → PayloadAnswer
+answerOf r = record { tracker = r .tracker; words = r .words; records = length (r .records); refusal = r .refusal }
+
+-- What a payload call gives, from the tracker, the bytes and the buffer.
+pub record PayloadPost (t : Tracker) (bytes buffer : List ℕ) (r : PayloadAnswer) (after : List ℕ) : Type 0 where
+  pub answer : r ≡ answerOf (payloadCall t bytes (room buffer))
+  pub buffer-is : after ≡ over (flat (payloadCall t bytes (room buffer) .records)) buffer
+  pub good : Good (r .tracker)
