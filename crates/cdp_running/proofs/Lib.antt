@@ -2,3 +2,5 @@ pub mod Presence
 pub mod Good
 pub mod Calls
 pub mod Outcome
+pub mod Fine
+pub mod Unique

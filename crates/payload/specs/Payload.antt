@@ -4,12 +4,14 @@
 use Prim.Native.Nat.{ℕ, zero, suc, _+_, _-_, _/_, _%_}
 use mathlib.Core.Path.{_≡_}
 use mathlib.Core.Bool.{Bool, cond}
-use mathlib.Core.List.{List, [], _++_}
+use mathlib.Core.List.{List, [], _∷_, _++_}
 use lib.Dec.{eqb}
 use lib.ListN.{length, take, drop}
 use Rattle.words.specs.Word.{wordBytes}
 use Rattle.records.specs.Records.{Record, flat, room, over}
+use Rattle.payload_fsm.specs.declared.ItsPayloadWord.{ItsPayloadWord}
 use Rattle.cdp_running.specs.declared.Tracker.{Tracker}
+use Rattle.cdp_running.specs.declared.FrameTold.{FrameTold}
 use Rattle.cdp_running.specs.Tracker.{Good}
 use Rattle.cdp_running.specs.Word.{Outcome, taken, refused, wordCall}
 use Rattle.payload.specs.declared.PayloadAnswer.{PayloadAnswer}
@@ -50,6 +52,22 @@ payloadCall t bytes places =
 
 abbrev pub answerOf : Run → PayloadAnswer
 answerOf r = record { tracker = r .tracker; words = r .words; records = length (r .records); refusal = r .refusal }
+
+-- Word calls made one after the other, each on the rest of the bytes and of the places that the one before left, up to a refusal: what they came to.
+pub data Calls : ℕ → Tracker → List ℕ → ℕ → List Outcome → Type 0 where
+  done : {t : Tracker} {bytes : List ℕ} {places : ℕ} → Calls 0 t bytes places []
+  last : {n : ℕ} {t : Tracker} {bytes : List ℕ} {places number : ℕ} → wordCall t (take wordBytes bytes) places ≡ refused number
+      → Calls (suc n) t bytes places (refused number ∷ [])
+  more : {n : ℕ} {t next : Tracker} {bytes : List ℕ} {places : ℕ} {kind : ItsPayloadWord} {guessed : Bool} {records : List Record} {frame : FrameTold} {lanes : ℕ} {rest : List Outcome}
+      → wordCall t (take wordBytes bytes) places ≡ taken next kind guessed records frame lanes
+      → Calls n next (drop wordBytes bytes) (places - length records) rest
+      → Calls (suc n) t bytes places (taken next kind guessed records frame lanes ∷ rest)
+
+-- What a list of outcomes comes to, all in all.
+unfoldable pub total : Tracker → List Outcome → Run
+total t [] = stop t 0
+total t (taken next kind guessed records frame lanes ∷ rest) = preceded 1 records (total next rest)
+total t (refused n ∷ rest) = stop t n
 
 -- What a payload call gives, from the tracker, the bytes and the buffer.
 pub record PayloadPost (t : Tracker) (bytes buffer : List ℕ) (r : PayloadAnswer) (after : List ℕ) : Type 0 where

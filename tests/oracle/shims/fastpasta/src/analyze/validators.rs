@@ -1,0 +1,3 @@
+//! Stand-in: the folder's modules.
+pub mod its;
+pub mod lib;

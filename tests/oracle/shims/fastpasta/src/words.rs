@@ -1,0 +1,2 @@
+//! Stand-in: the folder's modules.
+pub mod its;
