@@ -7,13 +7,15 @@
 
 #include <string.h>
 
-/* What a clean word goes through is inlined as a whole; what only a record needs is kept out of the way. */
+/* What a run of clean words goes through is inlined as a whole; what only a record needs is kept out of the way. */
 #ifdef __GNUC__
 #define HOT static inline __attribute__((always_inline))
 #define COLD static __attribute__((noinline, cold))
+#define APART static __attribute__((noinline))
 #else
 #define HOT static inline
 #define COLD static
+#define APART static
 #endif
 
 /* The states of 01. DATA_ and c_DATA_ have the same rows, so one state stands for both. */
@@ -363,28 +365,33 @@ uint64_t plain_packet(uint64_t *t, size_t tracker_len, uint64_t position, uint32
     return KHZ_DONE;
 }
 
+/* A word that is not refused with 1, 2 or 3. Apart, so that plain_word stays small. */
+APART khz_word_answer take_word(uint64_t *t, const uint8_t *bytes, uint64_t *records, size_t records_len)
+{
+    khz_word_answer a = {.refusal = KHZ_DONE};
+    buffer b = {records, 0, records_len / KHZ_RECORD_NUMBERS};
+    if (!take(t, bytes, &b, &a))
+        a.refusal = KHZ_NO_ROOM;
+    return a;
+}
+
 khz_word_answer plain_word(uint64_t *t, size_t tracker_len, const uint8_t *bytes, size_t word_len, uint64_t *records, size_t records_len)
 {
-    khz_word_answer a = {0, 0, 0, 0, 0, 0, 0, 0};
-
-    a.refusal = tracker_len != KHZ_TRACKER_WORDS ? KHZ_NO_TRACKER
-              : word_len != KHZ_WORD_BYTES       ? KHZ_WRONG_LENGTH
-              : t[STRIDE] == 0                   ? KHZ_NO_PACKET
-              : t[COUNT] == KHZ_PACKET_WORDS     ? KHZ_PACKET_FULL
-                                                 : KHZ_DONE;
-    if (a.refusal)
-        return a;
+    if (tracker_len != KHZ_TRACKER_WORDS)
+        return (khz_word_answer){.refusal = KHZ_NO_TRACKER};
+    if (word_len != KHZ_WORD_BYTES)
+        return (khz_word_answer){.refusal = KHZ_WRONG_LENGTH};
+    if (t[STRIDE] == 0)
+        return (khz_word_answer){.refusal = KHZ_NO_PACKET};
+    if (t[COUNT] == KHZ_PACKET_WORDS)
+        return (khz_word_answer){.refusal = KHZ_PACKET_FULL};
     /* most words are data words that give no record */
     if (t[STATE] == DATA_ && has_id(t[QUIET], bytes[9])) {
         t[COUNT]++;
         t[SEEN] = 1;
-        a.kind = KHZ_DATA_WORD;
-    } else {
-        buffer b = {records, 0, records_len / KHZ_RECORD_NUMBERS};
-        if (!take(t, bytes, &b, &a))
-            a.refusal = KHZ_NO_ROOM;
+        return (khz_word_answer){.kind = KHZ_DATA_WORD};
     }
-    return a;
+    return take_word(t, bytes, records, records_len);
 }
 
 khz_payload_answer plain_payload(uint64_t *t, size_t tracker_len, const uint8_t *payload, size_t payload_len, uint64_t *records, size_t records_len)

@@ -33,6 +33,7 @@ command -v cargo >/dev/null 2>&1 || { echo "no cargo" >&2; exit 3; }
 
 mkdir -p "$build"
 cp -Rp "$here/shims/." "$build/" # with the files' times, so that cargo builds no more than it must
+chmod -R u+w "$build"            # a checkout may be read-only
 for f in $given; do
     cmp -s "$(find_text "$f")" "$build/fastpasta/src/$f" || cp "$(find_text "$f")" "$build/fastpasta/src/$f"
     cmp "$(find_text "$f")" "$build/fastpasta/src/$f"

@@ -23,6 +23,7 @@ import subprocess
 import sys
 import tempfile
 
+sys.dont_write_bytecode = True  # nothing is left in the repository
 import generate
 import model
 
@@ -115,7 +116,7 @@ def compare(calls, ours, rust):
                     parts = answer.split(' ; ')
                     t.kinds[parts[0].split(' ')[0]] += 1
                     for record in parts[1:]:
-                        t.codes[int(record.split()[1])] += 1
+                        t.codes[record.split(' ')[1]] += 1
                 if m.apart:
                     t.apart += 1
                     continue
@@ -147,7 +148,7 @@ def check_smallest(smallest, t):
 def report(t, smallest):
     """Prints the outcome; True when nothing is unexplained."""
     wrong = check_smallest(smallest, t)
-    wrong += ['no sequence gave code %d' % c for c in sorted(CODES - set(t.codes))]
+    wrong += ['no sequence gave code %d' % c for c in sorted(CODES - {int(c) for c in t.codes})]
     wrong += ['no sequence gave kind %s' % k for k in sorted(KINDS - set(t.kinds))]
     for number, line, said, a, b in t.unexplained[:10]:
         print('line %d: %s\n  by the input: %s\n  ours: %s\n  rust: %s' % (number, line, said, a, b))

@@ -83,7 +83,8 @@ def random_packet(c):
 
 
 def well_formed(c, settings):
-    """Some orbits as a stave sends them: pages, continuations, TDHs without data, CDWs, internal or physics triggers."""
+    """Some orbits as a stave sends them: pages, continuations, TDHs without data, CDWs, internal or physics triggers. With a period of
+    198 or none they give no record."""
     inner, internal = c.often(0.5), c.often(0.6)
     lanes = 0x1FF if inner else c.pick([0xFFFFFFF, c.bits(28) | 1, 0x7F, 0x3F8])
     ids = [i for n, i in enumerate(INNER if inner else OUTER) if lanes >> n & 1]
@@ -95,27 +96,26 @@ def well_formed(c, settings):
     out = [['S', settings]]
 
     def data(n):
-        if not seen[0] and c.often(0.3):
+        nonlocal seen, index
+        if not seen and c.often(0.3):
             out.append(['W', cdw(user, index)])
-            seen[0] = True
+            seen, index = True, index + 1
         for _ in range(n):
             out.append(['W', word(c.bits(64), c.bits(8), c.pick(ids))])
-            seen[0] = True
+            seen = True
 
     def page(number, stop=0):
-        nonlocal position
+        nonlocal seen, position
         out.append(packet(position, orbit, trigger, first_bc, number, stop, format))
         position += 64 + 16 * 64
-        seen[0] = False
+        seen = False
 
-    seen = [False]
+    seen = False
     for _ in range(1 + c.below(3)):
         trigger = (c.bits(32) | 0x10) if c.often(0.7) else (c.bits(32) & ~0x10 | 0x1)
         type, number, first_bc = trigger & 0xFFF, 0, bc
         if c.often(0.3):
             user, index = c.bits(48), 0  # a new calibration step begins with index 0
-        else:
-            index = index + 1 & 0xFFFFFF
         page(0)
         out.append(['W', ihw(lanes)])
         while True:

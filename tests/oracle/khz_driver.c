@@ -10,7 +10,8 @@
  *
  * With -c it also checks, at every call, what the header promises and the Rust can't say: that refusals come when and in the order that
  * they should and leave tracker and records bit for bit, that nothing behind the records is touched, that the answer's numbers are in
- * range, and that payload calls over the same words (whole, cut in two, with too little room) give the same records, counts and tracker.
+ * range, that an array that holds no tracker gets 100, and that payload calls over the same words (whole, cut in two, with too little
+ * room) give the same records, counts and tracker.
  * A broken promise is told on standard error, and the exit status is 1.
  *
  * Linked with the archive, or with bench/plain.c: then compile with -DPLAIN.
@@ -304,6 +305,47 @@ static void print_records(const uint64_t *r, uint64_t n)
     putchar('\n');
 }
 
+#ifndef PLAIN
+/* An array that is no tracker: all four calls must refuse it with 100 and leave it. plain.c takes any array of the right length. */
+static void must_be_no_tracker(const tracker_array *t, const char *what)
+{
+    uint8_t w[KHZ_WORD_BYTES] = {0};
+    tracker_array copy = *t;
+
+    must_refuse_word(t, KHZ_TRACKER_WORDS, w, KHZ_WORD_BYTES, WORD_BUFFER, 100, what);
+    must_refuse_word(t, KHZ_TRACKER_WORDS, w, KHZ_WORD_BYTES - 1, 0, 100, what);
+    must_refuse_payload(t, KHZ_TRACKER_WORDS, w, KHZ_WORD_BYTES, WORD_BUFFER, 100, what);
+    must_refuse_payload(t, KHZ_TRACKER_WORDS, NULL, 0, 0, 100, what);
+    demand(khz_reset(copy.n, KHZ_TRACKER_WORDS) == 100, what);
+    demand(khz_packet(copy.n, KHZ_TRACKER_WORDS, 0, 0, 0, 0, 0, 0, 2) == 100, what);
+    demand(khz_packet(copy.n, KHZ_TRACKER_WORDS, 0, 0, 0, 0, 0, 0, 1) == 100, what);
+    demand(same_tracker(&copy, t), "an array that is no tracker was changed");
+}
+
+static void check_no_tracker(void)
+{
+    tracker_array t;
+    size_t refused = 0;
+
+    memset(&t, 0, sizeof t);
+    must_be_no_tracker(&t, "an array of zeros is not refused with 100");
+    memset(&t, 0xFF, sizeof t);
+    must_be_no_tracker(&t, "an array of all ones is not refused with 100");
+    /* one number spoilt: where that is refused, it must be left; which numbers can't be all ones is the library's affair */
+    for (size_t i = 0; i < KHZ_TRACKER_WORDS; i++) {
+        tracker_array copy;
+        t = tracker;
+        t.n[i] = UINT64_MAX;
+        copy = t;
+        if (khz_reset(copy.n, KHZ_TRACKER_WORDS) == 100) {
+            refused++;
+            must_be_no_tracker(&t, "an array is refused by one call and not by another");
+        }
+    }
+    demand(refused > 0, "no number of a tracker is looked at");
+}
+#endif
+
 static void start(bool running, bool frames, bool periodic, uint16_t period)
 {
     tracker_array other;
@@ -326,6 +368,9 @@ static void start(bool running, bool frames, bool periodic, uint16_t period)
         demand(khz_start(NULL, 0, running, frames, periodic, period) == 100, "khz_start takes no array");
         demand(same_tracker(&other, &tracker), "a refused khz_start wrote");
         check_refusals(w, false, false);
+#ifndef PLAIN
+        check_no_tracker();
+#endif
     }
     begin_stretch();
 }

@@ -11,6 +11,7 @@ import subprocess
 import sys
 import tempfile
 
+sys.dont_write_bytecode = True  # nothing is left in the repository
 import compare
 
 WRONG = [
@@ -135,11 +136,12 @@ WRONG = [
     ('counted_though_refused', '    if (taken) {\n        t[COUNT]++;', '    t[COUNT]++;\n    if (taken) {'),
     ('stored_though_refused', '    if (!put(r, b))\n        return false;\n    t[LANES] =', '    t[PAGE] = 0;\n    if (!put(r, b))\n        return false;\n    t[LANES] ='),
     ('wrote_though_refused', '    if (r->n > b->room - b->used)\n        return false;', '    if (r->n > b->room - b->used) {\n        if (b->room > b->used)\n            b->records[b->used * 4] = 0;\n        return false;\n    }'),
-    ('room_rounded_up', '        buffer b = {records, 0, records_len / KHZ_RECORD_NUMBERS};', '        buffer b = {records, 0, (records_len + 3) / KHZ_RECORD_NUMBERS};'),
-    ('word_of_11_bytes', 'word_len != KHZ_WORD_BYTES ', 'word_len / 2 != KHZ_WORD_BYTES / 2 '),
-    ('2_before_1', '              : word_len != KHZ_WORD_BYTES       ? KHZ_WRONG_LENGTH\n              : t[STRIDE] == 0                   ? KHZ_NO_PACKET\n', '              : t[STRIDE] == 0                   ? KHZ_NO_PACKET\n              : word_len != KHZ_WORD_BYTES       ? KHZ_WRONG_LENGTH\n'),
-    ('4095_words', ': t[COUNT] == KHZ_PACKET_WORDS     ?', ': t[COUNT] == KHZ_PACKET_WORDS - 1     ?'),
-    ('4097_words', ': t[COUNT] == KHZ_PACKET_WORDS     ?', ': t[COUNT] == KHZ_PACKET_WORDS + 1     ?'),
+    ('room_rounded_up', '    khz_word_answer a = {.refusal = KHZ_DONE};\n    buffer b = {records, 0, records_len /', '    khz_word_answer a = {.refusal = KHZ_DONE};\n    buffer b = {records, 0, (records_len + 3) /'),
+    ('word_of_11_bytes', 'if (word_len != KHZ_WORD_BYTES)', 'if (word_len / 2 != KHZ_WORD_BYTES / 2)'),
+    ('2_before_1', '    if (word_len != KHZ_WORD_BYTES)\n', '    if (t[STRIDE] == 0)\n        return (khz_word_answer){.refusal = KHZ_NO_PACKET};\n    if (word_len != KHZ_WORD_BYTES)\n'),
+    ('3_before_1', '    if (word_len != KHZ_WORD_BYTES)\n', '    if (t[COUNT] == KHZ_PACKET_WORDS)\n        return (khz_word_answer){.refusal = KHZ_PACKET_FULL};\n    if (word_len != KHZ_WORD_BYTES)\n'),
+    ('4095_words', 'if (t[COUNT] == KHZ_PACKET_WORDS)\n        return', 'if (t[COUNT] == KHZ_PACKET_WORDS - 1)\n        return'),
+    ('4097_words', 'if (t[COUNT] == KHZ_PACKET_WORDS)\n        return', 'if (t[COUNT] == KHZ_PACKET_WORDS + 1)\n        return'),
     ('payload_of_4097_words', 'left = (KHZ_PACKET_WORDS - t[COUNT])', 'left = (KHZ_PACKET_WORDS + 1 - t[COUNT])'),
     ('payload_length_not_asked', ': payload_len % KHZ_WORD_BYTES != 0 ', ': payload_len % 2 != 0 '),
     ('payload_first_word_only', '        at += KHZ_WORD_BYTES;\n    }\n    p.words', '        at += KHZ_WORD_BYTES;\n        break;\n    }\n    p.words'),

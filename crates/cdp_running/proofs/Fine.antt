@@ -14,18 +14,13 @@ use Rattle.payload_fsm.specs.declared.ItsPayloadWord.{ItsPayloadWord}
 use Rattle.payload_fsm.specs.declared.ItsPayloadWord.the-variants as K
 use Rattle.payload_fsm.proofs.Rows.{choice}
 use Rattle.records.specs.declared.Row.{Row}
-use Rattle.records.specs.Records.{Record, given, count, recordAt}
+use Rattle.records.specs.Records.{Record, given, count, recordAt, Each}
 use Rattle.records.proofs.Given.{counted}
 use Rattle.validators.specs.Tdh.{illegal}
 use Rattle.cdp_running.specs.declared.Tracker.{Tracker}
 use Rattle.cdp_running.specs.Tracker.{Good, mostPosition, maxWords}
 use Rattle.cdp_running.specs.Word.{rowsAs, rowsOf, takenAs, positionNow, recordsOf}
 use Rattle.cdp_running.proofs.Good.{position-most}
-
--- Something that holds of each of a list.
-abbrev pub Each : {A : Type 0} → (A → Type 0) → List A → Type 0
-Each P [] = Unit
-Each P (x ∷ xs) = P x × Each P xs
 
 -- What holds of each row's record holds of each record that is given.
 given-each : (P : Record → Type 0) (position : ℕ) (rows : List Row) → Each (λ row. P (recordAt position row)) rows → Each P (given position rows)

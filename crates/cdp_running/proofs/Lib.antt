@@ -4,3 +4,4 @@ pub mod Calls
 pub mod Outcome
 pub mod Fine
 pub mod Unique
+pub mod Replace

@@ -63,6 +63,23 @@ pub data Calls : ℕ → Tracker → List ℕ → ℕ → List Outcome → Type 
       → Calls n next (drop wordBytes bytes) (places - length records) rest
       → Calls (suc n) t bytes places (taken next kind guessed records frame lanes ∷ rest)
 
+-- The same calls as a list: what each comes to.
+abbrev pub further : Outcome → (Tracker → List Record → List Outcome) → List Outcome
+further (taken next kind guessed records frame lanes) go = taken next kind guessed records frame lanes ∷ go next records
+further (refused n) go = refused n ∷ []
+
+unfoldable pub wordCalls : ℕ → Tracker → List ℕ → ℕ → List Outcome
+wordCalls zero t bytes places = []
+wordCalls (suc n) t bytes places =
+    further (wordCall t (take wordBytes bytes) places) (λ next records. wordCalls n next (drop wordBytes bytes) (places - length records))
+
+-- The word calls that a payload call stands for; 1 and 2 as above.
+unfoldable pub payloadCalls : Tracker → List ℕ → ℕ → List Outcome
+payloadCalls t bytes places =
+    cond (eqb (length bytes % wordBytes) 0)
+    (cond (t .accepted) (wordCalls (length bytes / wordBytes) t bytes places) (refused 2 ∷ []))
+    (refused 1 ∷ [])
+
 -- What a list of outcomes comes to, all in all.
 unfoldable pub total : Tracker → List Outcome → Run
 total t [] = stop t 0

@@ -78,3 +78,8 @@ exceed records places = ltb places (length records)
 pub record WritePost (position : ℕ) (rows : List Row) (buffer : List ℕ) (r : Written) (after : List ℕ) : Type 0 where
   pub answer : r ≡ cond (exceed (given position rows) (room buffer)) NoRoom (Records (length (given position rows)))
   pub buffer-is : after ≡ cond (exceed (given position rows) (room buffer)) buffer (over (flat (given position rows)) buffer)
+
+-- Something that holds of each of a list.
+abbrev pub Each : {A : Type 0} → (A → Type 0) → List A → Type 0
+Each P [] = Unit
+Each P (x ∷ xs) = P x × Each P xs

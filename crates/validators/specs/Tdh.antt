@@ -1,6 +1,7 @@
 -- 01, "Records": the three kinds of TDH, and the interval.
 -- Assumes nothing.
-use Prim.Native.Nat.{ℕ, _+_, _-_, _/_, _%_, _^_}
+use Prim.Native.Nat.{ℕ, _+_, _-_, _/_, _%_, _^_, _<_}
+use mathlib.Core.Path.{_≡_}
 use mathlib.Core.Bool.{Bool, cond, _&&_, _||_}
 use mathlib.Core.List.{List, [], _∷_}
 use lib.Dec.{ltb, eqb}
@@ -22,10 +23,15 @@ detail w =
     (cond (isReserved0 w) 0 2 + cond (eqb (triggerType w) 0 && eqb (internalTrigger w) 0) 4 0)
     1
 
--- "the found period is the one number below 3564 that added to previous gives current modulo 3564" (that it is the one: proofs/Period.antt).
+-- "For legal BCs the found period is the one number below 3564 that added to previous gives current modulo 3564."
 abbrev pub crossings : ℕ
 crossings = 3564
 
+pub record IsPeriod (previous current n : ℕ) : Type 0 where
+  pub below : n < crossings
+  pub meets : (previous + n) % crossings ≡ current
+
+-- Such a number, by a formula (that it is one, and no other is: proofs/Period.antt).
 abbrev pub period : ℕ → ℕ → ℕ
 period previous current = (current + (crossings - previous % crossings)) % crossings
 

@@ -1,0 +1,7 @@
+pub mod Walk
+pub mod Marker
+pub mod Same
+pub mod Alike
+pub mod Forgetting
+pub mod Differ
+pub mod Edges

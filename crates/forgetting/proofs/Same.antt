@@ -1,0 +1,155 @@
+-- Two trackers that are the same but for what they store, and of that the same what was met: a word leaves them so.
+-- Assumes nothing.
+use Prim.Native.Nat.{ℕ, _≤_}
+use mathlib.Core.Path.{_≡_, refl, sym, ap, subst, _∙_}
+use mathlib.Core.Bool.{Bool, true, false, cond, _||_, or-assoc, or-false}
+use mathlib.Core.List.{List, [], _∷_, _++_}
+use native.Mathlib.Omega.{arith}
+use borrow.Author.Tests.{le-ltb, eqb-true}
+use lib.Dec.{leb, eqb}
+use lib.ListN.{length}
+use Rattle.words.specs.declared.Word.{Word}
+use Rattle.words.specs.Word.{wordOf}
+use Rattle.payload_fsm.specs.declared.ItsPayloadWord.{ItsPayloadWord}
+use Rattle.records.specs.Records.{Record, exceed}
+use Rattle.validators.specs.declared.Packet.{Packet}
+use Rattle.validators.specs.declared.StoredTdh.{StoredTdh}
+use Rattle.validators.specs.declared.InternalTdh.{InternalTdh}
+use Rattle.validators.specs.declared.StoredCdw.{StoredCdw}
+use Rattle.cdp_running.specs.declared.StoredIhw.{StoredIhw}
+use Rattle.cdp_running.specs.declared.FrameTold.{FrameTold}
+use Rattle.cdp_running.specs.declared.Tracker.{Tracker}
+use Rattle.cdp_running.specs.Tracker.{maxWords}
+use Rattle.cdp_running.specs.Next.{nextOf, nextIhw, nextTdh, nextInternal, nextCdw}
+use Rattle.cdp_running.specs.Word.{takenAs, recordsOf, Outcome, taken, refused, takenOf, wordCall}
+use Rattle.cdp_running.proofs.Fine.{at-most-six}
+use Rattle.cdp_running.proofs.Replace.{ihw-replaced, tdh-replaced, internal-replaced, cdw-replaced}
+use Rattle.forgetting.specs.Calls.{Took}
+use Rattle.forgetting.specs.Forget.{asIhw, asInternalTdh, asFirstCdw, some, HasMet}
+
+-- What was met.
+pub record Met : Type 0 where
+  pub ihw : Bool
+  pub internal : Bool
+  pub cdw : Bool
+
+unfoldable pub nothing : Met
+nothing = record { ihw = false; internal = false; cdw = false }
+
+abbrev pub meets : Met → Took → Met
+meets m x = record { ihw = m .ihw || asIhw x; internal = m .internal || asInternalTdh x; cdw = m .cdw || asFirstCdw x }
+
+unfoldable pub meetsAll : Met → List Took → Met
+meetsAll m [] = m
+meetsAll m (x ∷ xs) = meetsAll (meets m x) xs
+
+-- A tracker with other things stored.
+abbrev pub storing : Tracker → StoredIhw → StoredTdh → InternalTdh → StoredCdw → Tracker
+storing t ihw tdh internal cdw =
+    record {
+      settings = t .settings;
+      accepted = t .accepted;
+      packet = t .packet;
+      fsm = t .fsm;
+      count = t .count;
+      seen = t .seen;
+      ihw = ihw;
+      tdh = tdh;
+      internal = internal;
+      cdw = cdw;
+      frame = t .frame;
+    }
+
+pub record Same (m : Met) (t u : Tracker) : Type 0 where
+  pub ihw : StoredIhw
+  pub tdh : StoredTdh
+  pub internal : InternalTdh
+  pub cdw : StoredCdw
+  pub is : storing t ihw tdh internal cdw ≡ u
+  pub same-ihw : m .ihw ≡ true → t .ihw ≡ ihw
+  pub same-tdh : m .internal ≡ true → t .tdh ≡ tdh
+  pub same-internal : m .internal ≡ true → t .internal ≡ internal
+  pub same-cdw : m .cdw ≡ true → t .cdw ≡ cdw
+
+pub carried : {m : Met} {t t′ u u′ : Tracker} → t ≡ t′ → u ≡ u′ → Same m t′ u′ → Same m t u
+carried e e′ s = rw (e, e′) s
+
+-- The second tracker, as the first with the second's things.
+abbrev pub other : {m : Met} {t u : Tracker} → Same m t u → Tracker
+other {t = t} s = storing t (s .ihw) (s .tdh) (s .internal) (s .cdw)
+
+pub itself : {m : Met} {t u : Tracker} (s : Same m t u) → Same m t (other s)
+itself s =
+    record {
+      ihw = s .ihw;
+      tdh = s .tdh;
+      internal = s .internal;
+      cdw = s .cdw;
+      is = refl;
+      same-ihw = s .same-ihw;
+      same-tdh = s .same-tdh;
+      same-internal = s .same-internal;
+      same-cdw = s .same-cdw;
+    }
+
+-- With all met they are the same.
+pub all-same : {m : Met} {t u : Tracker} → Same m t u → m .ihw ≡ true → m .internal ≡ true → m .cdw ≡ true → t ≡ u
+all-same {t = t} s i n c =
+    (λ k. storing t (s .same-ihw i k) (s .same-tdh n k) (s .same-internal n k) (s .same-cdw c k)) ∙ s .is
+
+-- What a word was taken as, by a tracker.
+abbrev tookBy : Tracker → Word → Took
+tookBy t w = record { word = w; kind = takenAs t w .word; seen = t .seen }
+
+same-next : {m : Met} {t u : Tracker} (w : Word) → Same m t u → Same (meets m (tookBy t w)) (nextOf t (takenAs t w) w) (nextOf u (takenAs u w) w)
+same-next {m = m} {t = t} w s =
+    let k = takenAs t w .word in
+    record {
+      ihw = nextIhw k w (s .ihw);
+      tdh = nextTdh k w (s .tdh);
+      internal = nextInternal k w (s .internal);
+      cdw = nextCdw k (t .seen) w (s .cdw);
+      is = ap (λ (x : Tracker). nextOf x (takenAs x w) w) (s .is);
+      same-ihw = ihw-replaced (m .ihw) k w (t .ihw) (s .ihw) (s .same-ihw);
+      same-tdh = tdh-replaced (m .internal) k w (t .tdh) (s .tdh) (s .same-tdh);
+      same-internal = internal-replaced (m .internal) k w (t .internal) (s .internal) (s .same-internal);
+      same-cdw = cdw-replaced (m .cdw) k w (t .seen) (t .cdw) (s .cdw) (s .same-cdw);
+    }
+
+-- Two outcomes of one word: refused alike, or taken alike.
+pub data Alike (m : Met) (t : Tracker) (w : Word) : Outcome → Outcome → Type 0 where
+  both-refused : (n : ℕ) → Alike m t w (refused n) (refused n)
+  both-taken : {next next′ : Tracker} {k : ItsPayloadWord} {g : Bool} {rs rs′ : List Record} {f f′ : FrameTold} {l l′ : ℕ}
+      → Same (meets m (record { word = w; kind = k; seen = t .seen })) next next′ → length rs ≤ 6 → length rs′ ≤ 6
+      → Alike m t w (taken next k g rs f l) (taken next′ k g rs′ f′ l′)
+
+-- Six places are room enough.
+six-fit : (t : Tracker) (w : Word) (places : ℕ) → 6 ≤ places → exceed (recordsOf t w) places ≡ false
+six-fit t w places h = le-ltb places (length (recordsOf t w)) (omega (arith, at-most-six t w))
+
+-- Of the tracker that stores the other's things.
+taken-alike : {m : Met} {t u : Tracker} (w : Word) → Same m t u → Alike m t w (takenOf t w) (takenOf u w)
+unfolding takenOf
+taken-alike {m = m} {t = t} w s =
+    subst (λ (x : Tracker). Alike m t w (takenOf t w) (takenOf x w)) (s .is)
+    (both-taken (same-next w (itself s)) (at-most-six t w) (at-most-six (other s) w))
+
+pub word-alike : {m : Met} {t u : Tracker} (b : List ℕ) (p q : ℕ) → Same m t u → (length b ≡ 10 → 6 ≤ p) → (length b ≡ 10 → 6 ≤ q)
+    → Alike m t (wordOf b) (wordCall t b p) (wordCall u b q)
+unfolding wordCall
+word-alike {m = m} {t = t} b p q s hp hq =
+    subst (λ (x : Tracker). Alike m t (wordOf b) (wordCall t b p) (wordCall x b q)) (s .is)
+    (at (eqb (length b) 10) (t .accepted) (leb maxWords (t .count)) (exceed (recordsOf t w) p) (exceed (recordsOf (other s) w) q)
+    (λ e. six-fit t w p (hp (eqb-true _ _ e))) (λ e. six-fit (other s) w q (hq (eqb-true _ _ e))))
+  where
+    w : Word
+    w = wordOf b
+
+    at : (ten have full over over′ : Bool) → (ten ≡ true → over ≡ false) → (ten ≡ true → over′ ≡ false)
+        → Alike m t w
+        (cond ten (cond have (cond full (refused 3) (cond over (refused 4) (takenOf t w))) (refused 2)) (refused 1))
+        (cond ten (cond have (cond full (refused 3) (cond over′ (refused 4) (takenOf (other s) w))) (refused 2)) (refused 1))
+    at true true false over over′ h h′ = rw (h refl, h′ refl) (taken-alike w (itself s))
+    at true true true over over′ h h′ = both-refused 3
+    at true false full over over′ h h′ = both-refused 2
+    at false have full over over′ h h′ = both-refused 1

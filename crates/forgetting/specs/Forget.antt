@@ -1,0 +1,82 @@
+-- Promise 3, "The past is forgotten in time": what two trackers accept first, what the equal calls are, what they meet, and what then agrees.
+-- Assumes nothing.
+use Prim.Native.Nat.{ℕ, _*_, _/_, _≤_}
+use mathlib.Core.Path.{_≡_}
+use mathlib.Core.Bool.{Bool, true, false, _&&_, _||_}
+use mathlib.Core.List.{List, [], _∷_, _++_}
+use lib.Dec.{eqb}
+use lib.ListN.{length}
+use Rattle.words.specs.declared.Word.{Word}
+use Rattle.words.specs.Word.{wordBytes}
+use Rattle.words.specs.Tdh.{internalTrigger}
+use Rattle.payload_fsm.specs.Kinds.{isIhw, isTdh, isData}
+use Rattle.payload_fsm.specs.Settle.{DataClear, TdtDone}
+use Rattle.records.specs.Records.{mostRecords, room, Each}
+use Rattle.validators.specs.DataWords.{firstCdw}
+use Rattle.cdp_running.specs.declared.Tracker.{Tracker}
+use Rattle.cdp_running.specs.Tracker.{inRange}
+use Rattle.forgetting.specs.Calls.{Call, packet, word, payload, reset, run, answers, kinds, Took, took, wordsIn}
+
+-- "no reset between"
+abbrev pub NoReset : Call → Type 0
+NoReset (packet p) = Unit
+NoReset (word bytes buffer) = Unit
+NoReset (payload bytes buffer) = Unit
+NoReset reset = ⊥
+
+-- "Each accepts three data words with bit 13 clear, then a TDT with packet done, its own words in its own packets, one after another with no reset
+-- between; packets, and calls that are refused, may stand between." The last four words that calls took, of any that they took.
+pub record AcceptedMarker (t : Tracker) (calls : List Call) : Type 0 where
+  pub earlier : List Word
+  pub one : Word
+  pub two : Word
+  pub three : Word
+  pub last : Word
+  pub words : wordsIn (took t calls) ≡ earlier ++ (one ∷ two ∷ three ∷ last ∷ [])
+  pub first-data : DataClear one
+  pub second-data : DataClear two
+  pub third-data : DataClear three
+  pub tdt-done : TdtDone last
+  pub no-reset : Each NoReset calls
+
+-- "every record buffer with room for six records for each whole word that it is lent to"
+abbrev pub Roomy : Call → Type 0
+Roomy (packet p) = Unit
+Roomy (word bytes buffer) = mostRecords * (length bytes / wordBytes) ≤ room buffer
+Roomy (payload bytes buffer) = mostRecords * (length bytes / wordBytes) ≤ room buffer
+Roomy reset = Unit
+
+-- "begin with an accepted packet"
+abbrev pub Begins : List Call → Type 0
+Begins [] = ⊥
+Begins (packet p ∷ calls) = inRange p ≡ true
+Begins (word bytes buffer ∷ calls) = ⊥
+Begins (payload bytes buffer ∷ calls) = ⊥
+Begins (reset ∷ calls) = ⊥
+
+-- "a word was taken as IHW (or IHW continuation), one as TDH (of any of its three kinds) with internal trigger, and a CDW as the first data of a packet"
+abbrev pub asIhw : Took → Bool
+asIhw x = isIhw (x .kind)
+
+abbrev pub asInternalTdh : Took → Bool
+asInternalTdh x = isTdh (x .kind) && eqb (internalTrigger (x .word)) 1
+
+abbrev pub asFirstCdw : Took → Bool
+asFirstCdw x = isData (x .kind) && firstCdw (x .seen) (x .word)
+
+unfoldable pub some : (Took → Bool) → List Took → Bool
+some test [] = false
+some test (x ∷ xs) = test x || some test xs
+
+-- "in any order"
+pub record HasMet (xs : List Took) : Type 0 where
+  pub ihw : some asIhw xs ≡ true
+  pub internal-tdh : some asInternalTdh xs ≡ true
+  pub first-cdw : some asFirstCdw xs ≡ true
+
+-- Two trackers after calls, and later calls: "the refusals and the word kinds, guesses included, agree at once and for ever"; once all was met the
+-- trackers are the same, and "all later calls' answers and all bytes of the record buffers agree, for ever".
+pub record Forgotten (t u : Tracker) (calls later : List Call) : Type 0 where
+  pub kinds-agree : kinds t (calls ++ later) ≡ kinds u (calls ++ later)
+  pub trackers-agree : HasMet (took t calls) → run t calls ≡ run u calls
+  pub answers-agree : HasMet (took t calls) → answers (run t calls) later ≡ answers (run u calls) later

@@ -1,0 +1,183 @@
+/* boundary.c: the C boundary by example: 01's whole case through word and payload calls, and khz_check_file about its edges.
+ *
+ *     cc -std=c11 -I include tests/boundary.c target/staticlib/libkhandzorul.a -o /tmp/boundary && /tmp/boundary
+ *
+ * What holds at every call (refusals, records left alone, payloads against words) is checked by oracle/khz_driver.c -c.
+ * Last line: `boundary: N checks, M failed`; the exit status says the same.
+ */
+#include "khandzorul.h"
+
+#include <inttypes.h>
+#include <stdio.h>
+#include <stdlib.h>
+#include <string.h>
+
+static unsigned checks, failed;
+
+static void expect(bool holds, const char *what)
+{
+    checks++;
+    if (!holds) {
+        failed++;
+        printf("boundary: %s\n", what);
+    }
+}
+
+/* 01's whole case, 90 bytes. */
+static const uint8_t whole_case[90] = {
+    1, 0, 0, 0, 5, 0, 0, 0, 0x10, 0, 0, 0, 0x28, 0, 0, 0,
+    0, 0, 0, 0, 0, 0, 0, 0, 7, 0, 0, 0, 0x10, 0, 0, 0, 0xEC, 0x0D, 0, 0, 0, 2, 5, 0,
+    1, 0, 0, 0, 0, 0, 0, 0, 0, 0xE0,
+    0x10, 0x10, 0xEC, 0x0D, 7, 0, 0, 0, 0, 0xE8,
+    0, 0, 0, 0, 0, 0, 0, 0, 0, 0x21,
+    0, 0, 0, 0, 0, 0, 0, 0, 1, 0xF0,
+    0x10, 0x30, 0xC6, 0, 7, 0, 0, 0, 0, 0xE8,
+};
+enum { CASE_WORDS = 40 };                            /* where the words begin */
+
+/* What it gives, word by word: kind, records, frame, its start and end, lanes; then the records. */
+static const uint64_t case_answers[5][6] = {
+    {KHZ_IHW, 0, KHZ_FRAME_NONE, 0, 0, 1},
+    {KHZ_TDH, 0, KHZ_FRAME_OPENED, 0, 0, 0},
+    {KHZ_DATA_WORD, 1, KHZ_FRAME_NONE, 0, 0, 0},
+    {KHZ_TDT, 0, KHZ_FRAME_CLOSED, 74, 94, 0},
+    {KHZ_TDH_AFTER_PACKET_DONE, 2, KHZ_FRAME_OPENED, 0, 0, 0},
+};
+static const uint64_t case_records[3][KHZ_RECORD_NUMBERS] = {{84, 1072, 1, 1}, {104, 440, 3564, 198}, {104, 1045, 3564, 198}};
+
+static void begin_case(uint64_t *t)
+{
+    expect(khz_start(t, KHZ_TRACKER_WORDS, true, true, true, 198) == KHZ_DONE, "khz_start is refused");
+    expect(khz_packet(t, KHZ_TRACKER_WORDS, 0, 7, 0x10, 3564, 0, 0, 2) == KHZ_DONE, "the packet of the whole case is refused");
+}
+
+static void case_by_words(void)
+{
+    uint64_t t[KHZ_TRACKER_WORDS], records[KHZ_RECORDS_PER_WORD * KHZ_RECORD_NUMBERS];
+    const uint64_t *next = case_records[0];
+
+    begin_case(t);
+    for (int i = 0; i < 5; i++) {
+        const uint64_t *want = case_answers[i];
+        khz_word_answer a = khz_word(t, KHZ_TRACKER_WORDS, whole_case + CASE_WORDS + 10 * i, KHZ_WORD_BYTES, records, sizeof records / sizeof *records);
+        expect(a.refusal == KHZ_DONE && a.guessed == 0, "a word of the whole case is refused or guessed");
+        expect(a.kind == want[0] && a.records == want[1], "a word of the whole case has another kind or other records");
+        expect(a.frame == want[2] && a.frame_start == want[3] && a.frame_end == want[4], "a word of the whole case has another frame");
+        expect(a.lanes == want[5], "a word of the whole case has another count of lanes");
+        if (a.records == want[1]) {
+            expect(memcmp(records, next, a.records * sizeof case_records[0]) == 0, "a word of the whole case gives other records");
+            next += a.records * KHZ_RECORD_NUMBERS;
+        }
+    }
+}
+
+static void case_by_payload(void)
+{
+    uint64_t t[KHZ_TRACKER_WORDS], records[3 * KHZ_RECORD_NUMBERS];
+    khz_payload_answer a;
+
+    begin_case(t);
+    a = khz_payload(t, KHZ_TRACKER_WORDS, whole_case + CASE_WORDS, 50, records, sizeof records / sizeof *records);
+    expect(a.refusal == KHZ_DONE && a.words == 5 && a.records == 3, "the payload of the whole case has another answer");
+    expect(memcmp(records, case_records, sizeof case_records) == 0, "the payload of the whole case gives other records");
+
+    /* room for two records: the last word has two, and one is used */
+    begin_case(t);
+    a = khz_payload(t, KHZ_TRACKER_WORDS, whole_case + CASE_WORDS, 50, records, 2 * KHZ_RECORD_NUMBERS);
+    expect(a.refusal == KHZ_NO_ROOM && a.words == 4 && a.records == 1, "the payload of the whole case with little room has another answer");
+    a = khz_payload(t, KHZ_TRACKER_WORDS, whole_case + CASE_WORDS + 10 * a.words, 10, records, 2 * KHZ_RECORD_NUMBERS);
+    expect(a.refusal == KHZ_DONE && a.words == 1 && a.records == 2, "the rest of the whole case has another answer");
+    expect(memcmp(records, case_records[1], 2 * sizeof case_records[0]) == 0, "the rest of the whole case gives other records");
+}
+
+static void put(uint8_t *p, uint64_t n, int bytes)
+{
+    for (int i = 0; i < bytes; i++)
+        p[i] = (uint8_t)(n >> 8 * i);
+}
+
+/* A file of `packets` packets with counts[i] words each, all fields in range. Returns its length. */
+static size_t make_file(uint8_t *f, uint32_t packets, const uint16_t *counts)
+{
+    size_t words = 0, at = 16 + 24 * (size_t)packets;
+
+    memset(f, 0, at);
+    for (uint32_t i = 0; i < packets; i++) {
+        f[16 + 24 * i + 21] = 2;
+        put(f + 16 + 24 * i + 22, counts[i], 2);
+        words += counts[i];
+    }
+    put(f, packets, 4);
+    put(f + 4, words, 4);
+    put(f + 8, 16, 4);
+    put(f + 12, at, 4);
+    memset(f + at, 0, 10 * words);
+    return at + 10 * words;
+}
+
+static void files(void)
+{
+    static uint8_t f[70000];
+    uint16_t six[6] = {1000, 1000, 1000, 1000, 1000, 984}, one[1] = {5}, two[2] = {4097, 1}, none[1] = {0};
+    size_t n;
+
+    expect(khz_check_file(whole_case, sizeof whole_case) == KHZ_DONE, "the whole case is no bench file");
+    expect(khz_check_file(NULL, 0) == 6, "an empty file is not refused with 6");
+    n = make_file(f, 0, none);
+    expect(n == 16 && khz_check_file(f, n) == 0, "a file without packets is refused");
+    expect(khz_check_file(f, 15) == 6, "15 bytes are not refused with 6");
+    /* 2^29 packets: 24 times that is a multiple of 2^32, and a wrapped sum would pass */
+    put(f, 0x20000000, 4);
+    expect(khz_check_file(f, 16) == 6, "a header of 2^29 packets is not refused with 6");
+
+    n = make_file(f, 1, one);
+    expect(khz_check_file(f, n) == 0, "a file of one packet is refused");
+    expect(khz_check_file(f, n - 1) == 6 && khz_check_file(f, n + 1) == 6 && khz_check_file(f, n + 10) == 6, "a wrong length is not refused with 6");
+    f[8] = 17;
+    expect(khz_check_file(f, n) == 6, "another packet offset is not refused with 6");
+    make_file(f, 1, one);
+    f[12] ^= 1;
+    expect(khz_check_file(f, n) == 6, "another word offset is not refused with 6");
+    make_file(f, 1, one);
+    f[16 + 22] = 4;
+    expect(khz_check_file(f, n) == 7, "counts that don't sum up are not refused with 7");
+    f[16 + 21] = 1;
+    expect(khz_check_file(f, n) == 7, "7 does not come before 5");
+    make_file(f, 1, one);
+    f[16 + 21] = 1;
+    expect(khz_check_file(f, n) == 5, "format 1 is not refused with 5");
+    make_file(f, 1, one);
+    put(f + 16 + 16, 4095, 2);
+    put(f + 16, UINT64_C(1) << 62, 8);
+    expect(khz_check_file(f, n) == 0, "the last BC or position is refused");
+    put(f + 16 + 16, 4096, 2);
+    expect(khz_check_file(f, n) == 5, "BC 4096 is not refused with 5");
+    put(f + 16 + 16, 0, 2);
+    put(f + 16, (UINT64_C(1) << 62) + 1, 8);
+    expect(khz_check_file(f, n) == 5, "a position above 2^62 is not refused with 5");
+
+    n = make_file(f, 2, two);
+    expect(khz_check_file(f, n) == 3, "a packet of 4,097 words is not refused with 3");
+    f[16 + 24 + 21] = 1;
+    expect(khz_check_file(f, n) == 3, "an earlier packet's 3 does not come before a later one's 5");
+    f[16 + 21] = 1;
+    expect(khz_check_file(f, n) == 5, "a packet's 5 does not come before its 3");
+    two[0] = 4096;
+    n = make_file(f, 2, two);
+    expect(khz_check_file(f, n) == 0, "a packet of 4,096 words is refused");
+
+    n = make_file(f, 6, six);
+    expect(n == 60000 && khz_check_file(f, n) == 0, "a file of 60,000 bytes is refused");
+    six[5]++;
+    n = make_file(f, 6, six);
+    expect(n == 60010 && khz_check_file(f, n) == 6, "a file of 60,010 bytes is not refused with 6");
+}
+
+int main(void)
+{
+    case_by_words();
+    case_by_payload();
+    files();
+    printf("boundary: %u checks, %u failed\n", checks, failed);
+    return failed ? 1 : 0;
+}
