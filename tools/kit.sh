@@ -3,7 +3,7 @@
 # The identity that the README names, and a word to the reader where this machine has another.
 kit_identity() {
     command -v rt >/dev/null 2>&1 || { echo "no Rattle kit: the command rt is not on the PATH" >&2; exit 2; }
-    wanted=$(sed -n 's/^Rattle kit: `\(.*\)`.*/\1/p' README.md)
+    wanted=$(sed -n 's/^Rattle kit: `\([^`]*\)`.*/\1/p' README.md)
     here=$(rt version)
     [ "$here" = "$wanted" ] || echo "note: this machine has the kit '$here'; the README names '$wanted'"
 }

@@ -11,6 +11,7 @@ mod next;
 use payload_fsm::Advanced;
 use payload_fsm::ItsPayloadFsmContinuous;
 use payload_fsm::ItsPayloadWord;
+use records::MOST;
 use records::Row;
 use records::Written;
 use validators::InternalTdh;
@@ -111,7 +112,7 @@ fn position(packet: Packet, taken: u16) -> u64
 }
 
 // The rows of a word, by what it was taken as.
-fn rows_of(t: Tracker, a: Advanced, word: Word) -> [Row; 6]
+fn rows_of(t: Tracker, a: Advanced, word: Word) -> [Row; MOST]
     ensures { λ r. ⌜ r ≡ padded (rowsOf t a word) ⌝ }
 {
     let settings = t.settings;

@@ -4,13 +4,16 @@ use Prim.Native.Nat.{ℕ}
 use mathlib.Core.Path.{_≡_, refl}
 use mathlib.Core.Bool.{true, false}
 use mathlib.Core.List.{List, [], _∷_}
+use lib.Count.{ones}
 use Rattle.words.specs.Word.{number, wordOf, bits}
 use Rattle.records.specs.Records.{flat, given}
 use Rattle.validators.specs.declared.Settings.{Settings}
 use Rattle.validators.specs.declared.Packet.{Packet}
 use Rattle.cdp_running.specs.Tracker.{startOf, packetCall}
-use Rattle.cdp_running.specs.Word.{recordsOf, takenOf, wordCall}
-use Rattle.payload.specs.Payload.{wordsFrom, payloadCall}
+use Rattle.cdp_running.specs.declared.Tracker.{Tracker}
+use Rattle.cdp_running.specs.Word.{Outcome, recordsOf, takenOf, wordCall, answerOf}
+use Rattle.cdp_running.specs.Answer.{Numbers, numbersOf}
+use Rattle.payload.specs.Payload.{wordsFrom, payloadCall, wordCalls, payloadCalls}
 
 -- Running checks and frames on, period 198.
 pub settings : Settings
@@ -27,7 +30,25 @@ five =
     ∷ 0x00 ∷ 0x00 ∷ 0x00 ∷ 0x00 ∷ 0x00 ∷ 0x00 ∷ 0x00 ∷ 0x00 ∷ 0x01 ∷ 0xF0
     ∷ 0x10 ∷ 0x30 ∷ 0xC6 ∷ 0x00 ∷ 0x07 ∷ 0x00 ∷ 0x00 ∷ 0x00 ∷ 0x00 ∷ 0xE8 ∷ []
 
-pub whole-case : flat (payloadCall (packetCall (startOf settings) packet .tracker) five 6 .records)
+-- One packet, and its five words as a payload with room for six records.
+pub begun : Tracker
+begun = packetCall (startOf settings) packet .tracker
+
+pub whole-case : flat (payloadCall begun five 6 .records)
     ≡ 84 ∷ 1072 ∷ 1 ∷ 1 ∷ 104 ∷ 440 ∷ 3564 ∷ 198 ∷ 104 ∷ 1045 ∷ 3564 ∷ 198 ∷ []
-unfolding settings packet five number wordOf bits flat given packetCall recordsOf takenOf wordCall wordsFrom payloadCall
+unfolding begun settings packet five number wordOf bits flat given packetCall recordsOf takenOf wordCall wordsFrom payloadCall
 whole-case = refl
+
+-- The same as word calls: what each tells. Refusal, kind, guessed, records, frame with start and end, lanes.
+pub tells : ℕ → ℕ → ℕ → ℕ → ℕ → ℕ → Numbers
+tells kind records frame start end lanes =
+    record { refusal = 0; kind = kind; guessed = 0; records = records; frame = frame; start = start; end = end; lanes = lanes }
+
+pub told : List Outcome → List Numbers
+told [] = []
+told (o ∷ os) = numbersOf (answerOf begun o .told) ∷ told os
+
+pub whole-answers : told (payloadCalls begun five 6)
+    ≡ tells 1 0 0 0 0 1 ∷ tells 3 0 1 0 0 0 ∷ tells 6 1 0 0 0 0 ∷ tells 8 0 2 74 94 0 ∷ tells 4 2 1 0 0 0 ∷ []
+unfolding begun settings packet five tells told number wordOf bits given packetCall recordsOf takenOf wordCall wordCalls payloadCalls ones
+whole-answers = refl

@@ -43,7 +43,7 @@ fn quiet_words(lanes: u32, bytes: &[u8], at: usize, most: usize) -> usize
     let mut n: usize = 0;
     let mut i = at;
     while n < most {
-        if quiet_id(lanes, bytes[i + 9]) {
+        if quiet_id(lanes, bytes[i + Word::ID_BYTE]) {
             n = n + 1;
             i = i + Word::SIZE;
         } else {

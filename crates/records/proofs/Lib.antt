@@ -1,3 +1,4 @@
 pub mod Given
 pub mod Buffer
 pub mod Writing
+pub mod Unique

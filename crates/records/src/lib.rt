@@ -53,7 +53,7 @@ pub fn pick(b: bool, x: u64, y: u64) -> u64
 }
 
 // Whether no record is given.
-pub fn silent(rows: [Row; 6]) -> bool
+pub fn silent(rows: [Row; MOST]) -> bool
     ensures { λ r. ⌜ r ≡ silent rows ⌝ }
 {
     let a = rows[0];
@@ -66,7 +66,7 @@ pub fn silent(rows: [Row; 6]) -> bool
 }
 
 // How many records are given.
-fn count(rows: [Row; 6]) -> u64
+fn count(rows: [Row; MOST]) -> u64
     ensures { λ r. ⌜ r ≡ count rows ⌝ }
 {
     let mut n: u64 = 0;
@@ -91,7 +91,7 @@ fn put(out: &mut [u64], position: u64, row: Row)
 }
 
 // The records that are given, at the front of a buffer, whose rest stays. Where they exceed its room nothing is written.
-pub fn write(out: &mut [u64], position: u64, rows: [Row; 6]) -> Written
+pub fn write(out: &mut [u64], position: u64, rows: [Row; MOST]) -> Written
     ensures { λ r. ⌜ WritePost position rows (now (out .entry)) r (now (out .exit)) ⌝ }
 {
     let n = count(rows);

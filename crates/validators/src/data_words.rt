@@ -4,6 +4,7 @@ ghost use Rattle.records.specs.Records.{padded};
 ghost use Rattle.validators.specs.DataWords.{firstCdw, dataRows};
 use crate::Settings;
 use crate::StoredCdw;
+use records::MOST;
 use records::Row;
 use records::when;
 use words::Word;
@@ -30,7 +31,7 @@ pub fn check(
     stored: StoredCdw,
     guessed: bool,
     word: Word,
-) -> [Row; 6]
+) -> [Row; MOST]
     ensures { λ r. ⌜ r ≡ padded (dataRows settings seen lanes stored guessed word) ⌝ }
 {
     let cdw = Cdw { word: word };

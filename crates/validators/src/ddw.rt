@@ -4,6 +4,7 @@ ghost use Rattle.records.specs.Records.{padded};
 ghost use Rattle.validators.specs.Ddw.{detail, ddw0Rows};
 use crate::Packet;
 use crate::Settings;
+use records::MOST;
 use records::Row;
 use records::none;
 use records::pick;
@@ -27,7 +28,7 @@ fn sanity_check(word: Word) -> u64
 }
 
 // Kind DDW0, guessed or not.
-pub fn check_at_ddw0(settings: Settings, packet: Packet, guessed: bool, word: Word) -> [Row; 6]
+pub fn check_at_ddw0(settings: Settings, packet: Packet, guessed: bool, word: Word) -> [Row; MOST]
     ensures { λ r. ⌜ r ≡ padded (ddw0Rows settings packet guessed word) ⌝ }
 {
     let fault = sanity_check(word);

@@ -4,6 +4,7 @@ ghost use Rattle.records.specs.Records.{padded};
 ghost use Rattle.validators.specs.Ihw.{detail, ihwRows, continuationRows};
 use crate::Packet;
 use crate::Settings;
+use records::MOST;
 use records::Row;
 use records::none;
 use records::pick;
@@ -22,7 +23,7 @@ fn sanity_check(word: Word) -> u64
 }
 
 // Kind IHW: with the stop bit and the page of the packet.
-pub fn check_at_initial_ihw(settings: Settings, packet: Packet, word: Word) -> [Row; 6]
+pub fn check_at_initial_ihw(settings: Settings, packet: Packet, word: Word) -> [Row; MOST]
     ensures { λ r. ⌜ r ≡ padded (ihwRows settings packet word) ⌝ }
 {
     let fault = sanity_check(word);
@@ -48,7 +49,7 @@ pub fn check_at_initial_ihw(settings: Settings, packet: Packet, word: Word) -> [
 }
 
 // Kind IHW continuation.
-pub fn check_continuation(word: Word) -> [Row; 6]
+pub fn check_continuation(word: Word) -> [Row; MOST]
     ensures { λ r. ⌜ r ≡ padded (continuationRows word) ⌝ }
 {
     let fault = sanity_check(word);

@@ -7,6 +7,7 @@ use crate::InternalTdh;
 use crate::Packet;
 use crate::Settings;
 use crate::StoredTdh;
+use records::MOST;
 use records::Row;
 use records::none;
 use records::pick;
@@ -65,7 +66,7 @@ pub fn check_tdh_no_continuation(
     packet: Packet,
     earlier: InternalTdh,
     word: Word,
-) -> [Row; 6]
+) -> [Row; MOST]
     ensures { λ r. ⌜ r ≡ padded (tdhRows settings packet earlier word) ⌝ }
 {
     let tdh = Tdh { word: word };
@@ -108,7 +109,7 @@ pub fn check_after_tdt_packet_done_true(
     previous: StoredTdh,
     earlier: InternalTdh,
     word: Word,
-) -> [Row; 6]
+) -> [Row; MOST]
     ensures { λ r. ⌜ r ≡ padded (afterPacketDoneRows settings previous earlier word) ⌝ }
 {
     let tdh = Tdh { word: word };
@@ -131,7 +132,7 @@ pub fn check_after_tdt_packet_done_true(
 }
 
 // Kind TDH continuation.
-pub fn check_continuation(settings: Settings, previous: StoredTdh, word: Word) -> [Row; 6]
+pub fn check_continuation(settings: Settings, previous: StoredTdh, word: Word) -> [Row; MOST]
     ensures { λ r. ⌜ r ≡ padded (continuationRows settings previous word) ⌝ }
 {
     let tdh = Tdh { word: word };

@@ -3,6 +3,7 @@ ghost use mathlib.Core.Path.{_≡_};
 ghost use Rattle.records.specs.Records.{padded};
 ghost use Rattle.validators.specs.Tdt.{detail, tdtRows};
 use crate::Settings;
+use records::MOST;
 use records::Row;
 use records::none;
 use records::pick;
@@ -21,7 +22,7 @@ fn sanity_check(word: Word) -> u64
 }
 
 // Kind TDT: with packet done it ends a frame, of which a start must have been seen.
-pub fn check(settings: Settings, live: bool, word: Word) -> [Row; 6]
+pub fn check(settings: Settings, live: bool, word: Word) -> [Row; MOST]
     ensures { λ r. ⌜ r ≡ padded (tdtRows settings live word) ⌝ }
 {
     let tdt = Tdt { word: word };

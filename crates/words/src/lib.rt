@@ -33,14 +33,16 @@ fn wide(b: u8) -> u64
 }
 
 impl Word {
-    // Bytes of a word.
+    // Bytes of a word, and the one that holds its id.
     pub const SIZE: usize = 10;
+
+    pub const ID_BYTE: usize = 9;
 
     // Refusal 1: a word is not ten bytes.
     pub const REFUSED_SIZE: u8 = 1;
 
     // The word that ten bytes are. An array carries its length, so nothing is asked.
-    pub fn load(bytes: [u8; 10]) -> Word
+    pub fn load(bytes: [u8; Word::SIZE]) -> Word
         ensures { λ r. ⌜ r ≡ wordOf bytes ⌝ }
     {
         let lo = wide(bytes[0])

@@ -1,0 +1,14 @@
+-- Uniqueness: the contract of `write` determines the answer and the final buffer, also where nothing is written.
+-- Assumes nothing.
+use mathlib.Core.Path.{_≡_}
+use mathlib.Core.List.{List}
+use Prim.Native.Nat.{ℕ}
+use Rattle.words.proofs.Unique.{unique}
+use Rattle.records.specs.declared.Row.{Row}
+use Rattle.records.specs.declared.Written.{Written}
+use Rattle.records.specs.Records.{WritePost}
+
+pub write-unique : {position : ℕ} {rows : List Row} {buffer after after′ : List ℕ} {first second : Written}
+    → WritePost position rows buffer first after → WritePost position rows buffer second after′
+    → (first ≡ second) × (after ≡ after′)
+write-unique a b = (unique (a .answer) (b .answer), unique (a .buffer-is) (b .buffer-is))
