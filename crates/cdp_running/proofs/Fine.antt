@@ -16,7 +16,7 @@ use Rattle.payload_fsm.proofs.Rows.{choice}
 use Rattle.records.specs.declared.Row.{Row}
 use Rattle.records.specs.Records.{Record, given, count, recordAt, Each}
 use Rattle.records.proofs.Given.{counted}
-use Rattle.validators.specs.Tdh.{illegal}
+use Rattle.tdh_validator.specs.Tdh.{illegal}
 use Rattle.cdp_running.specs.declared.Tracker.{Tracker}
 use Rattle.cdp_running.specs.Tracker.{Good, mostPosition, maxWords}
 use Rattle.cdp_running.specs.Word.{rowsAs, rowsOf, takenAs, positionNow, recordsOf}

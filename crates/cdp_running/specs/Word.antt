@@ -15,7 +15,7 @@ use Rattle.payload_fsm.specs.Step.{advanceOf}
 use Rattle.records.specs.declared.Row.{Row}
 use Rattle.records.specs.Records.{Record, given, flat, room, over, exceed}
 use Rattle.validators.specs.Ihw as Ihw
-use Rattle.validators.specs.Tdh as Tdh
+use Rattle.tdh_validator.specs.Tdh as Tdh
 use Rattle.validators.specs.Tdt as Tdt
 use Rattle.validators.specs.Ddw as Ddw
 use Rattle.validators.specs.DataWords as DataWords

@@ -127,13 +127,13 @@ fn rows_of(t: Tracker, a: Advanced, word: Word) -> [Row; MOST]
         ItsPayloadWord::Ihw => validators::ihw::check_at_initial_ihw(settings, packet, word),
         ItsPayloadWord::IhwContinuation => validators::ihw::check_continuation(word),
         ItsPayloadWord::Tdh => {
-            validators::tdh::check_tdh_no_continuation(settings, packet, earlier, word)
+            tdh_validator::check_tdh_no_continuation(settings, packet, earlier, word)
         }
         ItsPayloadWord::TdhAfterPacketDone => {
-            validators::tdh::check_after_tdt_packet_done_true(settings, previous, earlier, word)
+            tdh_validator::check_after_tdt_packet_done_true(settings, previous, earlier, word)
         }
         ItsPayloadWord::TdhContinuation => {
-            validators::tdh::check_continuation(settings, previous, word)
+            tdh_validator::check_continuation(settings, previous, word)
         }
         ItsPayloadWord::DataWord => {
             validators::data_words::check(settings, t.seen, ihw.lanes, cdw, a.guessed, word)

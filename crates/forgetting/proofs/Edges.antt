@@ -14,7 +14,7 @@ use Rattle.payload_fsm.specs.Settle.{DataClear, TdtDone, stateAfter}
 use Rattle.payload_fsm.specs.declared.State.the-variants as S
 use Rattle.payload_fsm.proofs.Settle.{settled, two-are-few}
 use Rattle.records.specs.Records.{Each}
-use Rattle.validators.specs.Tdh.{illegal}
+use Rattle.tdh_validator.specs.Tdh.{illegal}
 use Rattle.forgetting.specs.Edges.{Holds, found, no-period, outer-lane, status, from-three, isThree, table}
 
 two : Holds (from-three 2 false)

@@ -16,7 +16,7 @@ use Rattle.records.specs.declared.Row.{Row}
 use Rattle.records.specs.Records.{when, Each}
 use Rattle.validators.specs.declared.Settings.{Settings}
 use Rattle.validators.specs.declared.InternalTdh.{InternalTdh}
-use Rattle.validators.specs.Tdh.{period, interval}
+use Rattle.tdh_validator.specs.Tdh.{period, interval}
 
 -- A row: a period found, a pair that has none, an outer lane, the lane status of a word with one byte set, what three-way words lead to.
 pub data Edge : Type 0 where

@@ -33,7 +33,7 @@ fn is_silent(t: Tracker, a: Advanced, word: Word) -> bool
             records::silent(validators::ihw::check_continuation(word))
         }
         ItsPayloadWord::Tdh => {
-            records::silent(validators::tdh::check_tdh_no_continuation(
+            records::silent(tdh_validator::check_tdh_no_continuation(
                 settings,
                 packet,
                 earlier,
@@ -41,7 +41,7 @@ fn is_silent(t: Tracker, a: Advanced, word: Word) -> bool
             ))
         }
         ItsPayloadWord::TdhAfterPacketDone => {
-            records::silent(validators::tdh::check_after_tdt_packet_done_true(
+            records::silent(tdh_validator::check_after_tdt_packet_done_true(
                 settings,
                 previous,
                 earlier,
@@ -49,7 +49,7 @@ fn is_silent(t: Tracker, a: Advanced, word: Word) -> bool
             ))
         }
         ItsPayloadWord::TdhContinuation => {
-            records::silent(validators::tdh::check_continuation(settings, previous, word))
+            records::silent(tdh_validator::check_continuation(settings, previous, word))
         }
         ItsPayloadWord::DataWord => {
             records::silent(validators::data_words::check(

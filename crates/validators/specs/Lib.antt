@@ -1,7 +1,6 @@
--- 01, "Records, in the order given": the rows of each kind of word, in 01's order. Tdh also has the interval.
+-- 01, "Records, in the order given": the rows of each kind of word but the TDH, in 01's order.
 pub mod Detail
 pub mod Ihw
-pub mod Tdh
 pub mod Tdt
 pub mod Ddw
 pub mod DataWords

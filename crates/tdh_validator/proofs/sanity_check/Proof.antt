@@ -1,8 +1,8 @@
 -- `tdh::sanity_check` meets its contract.
 -- Assumes nothing.
 use borrow.Author.Needs.{needs}
-use Rattle.validators.proofs.tdh.sanity_check.Statement.{statement}
-use Rattle.validators.proofs.tdh.sanity_check.Tie as tie
+use Rattle.tdh_validator.proofs.sanity_check.Statement.{statement}
+use Rattle.tdh_validator.proofs.sanity_check.Tie as tie
 
 returns : tie.Need-returns
 returns c = simp (c .pick3 .ensures .0, c .before .pick2 .ensures .0, c .before .before .pick .ensures .0, c .before .before .before .internal-trigger .ensures, c .before .before .before .before .trigger-type .ensures, c .before .before .before .before .before .is-reserved-0 .ensures, c .before .before .before .before .before .before .id .ensures)

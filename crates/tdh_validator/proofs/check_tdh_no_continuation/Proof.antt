@@ -3,8 +3,8 @@
 use borrow.Author.Needs.{needs}
 use native.Mathlib.Nat.{div-one}
 use native.Mathlib.Omega.{arith}
-use Rattle.validators.proofs.tdh.check_tdh_no_continuation.Statement.{statement}
-use Rattle.validators.proofs.tdh.check_tdh_no_continuation.Tie as tie
+use Rattle.tdh_validator.proofs.check_tdh_no_continuation.Statement.{statement}
+use Rattle.tdh_validator.proofs.check_tdh_no_continuation.Tie as tie
 
 cast-when-3 : tie.Need-cast-when-3
 cast-when-3 c = omega (arith, c .before .before .before .before .before .before .before .before .before .before .before .before .before .before .before .before .trigger-bc)

@@ -2,8 +2,8 @@
 -- Assumes nothing.
 use borrow.Author.Needs.{needs}
 use native.Mathlib.Omega.{arith}
-use Rattle.validators.proofs.tdh.check_continuation.Statement.{statement}
-use Rattle.validators.proofs.tdh.check_continuation.Tie as tie
+use Rattle.tdh_validator.proofs.check_continuation.Statement.{statement}
+use Rattle.tdh_validator.proofs.check_continuation.Tie as tie
 
 cast-when-5 : tie.Need-cast-when-5
 cast-when-5 c = omega (arith, c .before .before .before .before .before .before .before .before .before .before .before .before .before .before .before .trigger-type)

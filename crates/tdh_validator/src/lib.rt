@@ -2,16 +2,16 @@
 ghost use mathlib.Core.Path.{_≡_};
 ghost use Prim.Native.Nat.{_≤_, _<_};
 ghost use Rattle.records.specs.Records.{padded};
-ghost use Rattle.validators.specs.Tdh.{detail, crossings, period, illegal, interval, matchesPacket, tdhRows, afterPacketDoneRows, continuationRows};
-use crate::InternalTdh;
-use crate::Packet;
-use crate::Settings;
-use crate::StoredTdh;
+ghost use Rattle.tdh_validator.specs.Tdh.{detail, crossings, period, illegal, interval, matchesPacket, tdhRows, afterPacketDoneRows, continuationRows};
 use records::MOST;
 use records::Row;
 use records::none;
 use records::pick;
 use records::when;
+use validators::InternalTdh;
+use validators::Packet;
+use validators::Settings;
+use validators::StoredTdh;
 use words::Word;
 use words::tdh::Tdh;
 

@@ -1,8 +1,8 @@
 -- `tdh::check_trigger_interval` meets its contract.
 -- Assumes nothing.
 use borrow.Author.Needs.{needs}
-use Rattle.validators.proofs.tdh.check_trigger_interval.Statement.{statement}
-use Rattle.validators.proofs.tdh.check_trigger_interval.Tie as tie
+use Rattle.tdh_validator.proofs.check_trigger_interval.Statement.{statement}
+use Rattle.tdh_validator.proofs.check_trigger_interval.Tie as tie
 
 returns : tie.Need-returns
 returns c = simp (c .when .ensures, c .before .pick3 .ensures .0, c .before .before .before .pick2 .ensures .0, c .before .before .before .before .before .pick .ensures .0, c .before .before .before .before .before .before .before .before .before .before .trigger-period .ensures, c .before .before .before .before .before .before .before .before .before .before .before .before .internal-trigger .ensures, c .before .before .before .before .before .before .before .before .before .before .before .before .before .trigger-bc .ensures)

@@ -4,7 +4,7 @@ use Prim.Native.Nat.{ℕ, _+_, _%_, _≤_, _<_}
 use mathlib.Core.Path.{_≡_}
 use native.Mathlib.Omega.{arith}
 use Rattle.words.specs.Tdh.{maxBc}
-use Rattle.validators.specs.Tdh.{crossings, IsPeriod, period}
+use Rattle.tdh_validator.specs.Tdh.{crossings, IsPeriod, period}
 
 module _ (previous current : ℕ) (legal : previous ≤ maxBc) (legal′ : current ≤ maxBc) where
   pub period-is : IsPeriod previous current (period previous current)
