@@ -4,9 +4,9 @@ ghost use mathlib.Core.Path.{_≡_};
 ghost use Prim.Native.Nat.{_≤_};
 ghost use Rattle.records.specs.Records.{padded};
 ghost use Rattle.cdp_running.specs.Tracker.{Good, settingsOf, startOf, resetOf, PacketPost, maxPosition, maxWords, positionOf};
-ghost use Rattle.cdp_running.specs.Word.{rowsOf, Outcome, answerOf, WordPost};
+ghost use Rattle.cdp_running.specs.Word.{positionNow, rowsOf, Outcome, answerOf, WordPost};
 
-mod next;
+pub mod next;
 
 use payload_fsm::Advanced;
 use payload_fsm::ItsPayloadFsmContinuous;
@@ -215,6 +215,14 @@ impl Tracker {
         }
     }
 
+    // Where the next word stands.
+    pub fn here(self) -> u64
+        requires { ⌜ Good self ⌝ }
+        ensures { λ r. ⌜ r ≡ positionNow self ⌝ }
+    {
+        position(self.packet, self.count)
+    }
+
     // A packet: where its words stand and what they are checked against. Refusal 5 leaves everything.
     pub fn packet(self, packet: Packet) -> PacketAnswer
         requires { ⌜ Good self ⌝ }
@@ -265,11 +273,10 @@ impl Tracker {
         if self.count >= MAX_WORDS {
             return refused(self, REFUSED_FULL);
         }
-        let packet = self.packet;
         let fsm = self.fsm;
         let a = fsm.advance(word);
         let rows = rows_of(self, a, word);
-        let here = position(packet, self.count);
+        let here = self.here();
         let Written::Records(n) = records::write(out, here, rows) else {
             return refused(self, REFUSED_ROOM);
         };

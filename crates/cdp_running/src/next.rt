@@ -9,7 +9,6 @@ use crate::StoredIhw;
 use crate::Told;
 use crate::Tracker;
 use crate::WordAnswer;
-use crate::position;
 use payload_fsm::Advanced;
 use payload_fsm::ItsPayloadWord;
 use validators::InternalTdh;
@@ -21,7 +20,7 @@ use words::ihw::Ihw;
 use words::tdh::Tdh;
 use words::tdt::Tdt;
 
-fn ihw(kind: ItsPayloadWord, word: Word, old: StoredIhw) -> StoredIhw
+pub fn ihw(kind: ItsPayloadWord, word: Word, old: StoredIhw) -> StoredIhw
     ensures { λ r. ⌜ r ≡ nextIhw kind word old ⌝ }
 {
     if kind.is_ihw() {
@@ -35,7 +34,7 @@ fn ihw(kind: ItsPayloadWord, word: Word, old: StoredIhw) -> StoredIhw
     }
 }
 
-fn tdh(kind: ItsPayloadWord, word: Word, old: StoredTdh) -> StoredTdh
+pub fn tdh(kind: ItsPayloadWord, word: Word, old: StoredTdh) -> StoredTdh
     ensures { λ r. ⌜ r ≡ nextTdh kind word old ⌝ }
 {
     if kind.is_tdh() {
@@ -51,7 +50,7 @@ fn tdh(kind: ItsPayloadWord, word: Word, old: StoredTdh) -> StoredTdh
     }
 }
 
-fn internal(kind: ItsPayloadWord, word: Word, old: InternalTdh) -> InternalTdh
+pub fn internal(kind: ItsPayloadWord, word: Word, old: InternalTdh) -> InternalTdh
     ensures { λ r. ⌜ r ≡ nextInternal kind word old ⌝ }
 {
     let tdh = Tdh { word: word };
@@ -67,7 +66,7 @@ fn internal(kind: ItsPayloadWord, word: Word, old: InternalTdh) -> InternalTdh
     }
 }
 
-fn cdw(kind: ItsPayloadWord, seen: bool, word: Word, old: StoredCdw) -> StoredCdw
+pub fn cdw(kind: ItsPayloadWord, seen: bool, word: Word, old: StoredCdw) -> StoredCdw
     ensures { λ r. ⌜ r ≡ nextCdw kind seen word old ⌝ }
 {
     let is_data = kind.is_data();
@@ -101,7 +100,7 @@ fn closes(frames: bool, kind: ItsPayloadWord, word: Word) -> bool
     is_tdt & (frames & done)
 }
 
-fn frame(frames: bool, kind: ItsPayloadWord, word: Word, position: u64, old: Frame) -> Frame
+pub fn frame(frames: bool, kind: ItsPayloadWord, word: Word, position: u64, old: Frame) -> Frame
     ensures { λ r. ⌜ r ≡ nextFrame frames kind word position old ⌝ }
 {
     if opens(frames, kind, word, old) {
@@ -154,7 +153,7 @@ fn lanes_told(kind: ItsPayloadWord, word: Word) -> u32
 
 impl Tracker {
     // The tracker after a word that is taken as `a` says.
-    pub fn after(self, a: Advanced, word: Word) -> Tracker
+    pub(crate) fn after(self, a: Advanced, word: Word) -> Tracker
         requires { ⌜ Good self ⌝ }
         ensures { λ r. ⌜ r ≡ nextOf self a word ⌝ }
     {
@@ -162,7 +161,7 @@ impl Tracker {
         let settings = self.settings;
         let packet = self.packet;
         let fsm = a.fsm;
-        let here = position(packet, self.count);
+        let here = self.here();
         let is_data = kind.is_data();
         Tracker {
             settings: settings,
@@ -187,8 +186,7 @@ pub(crate) fn taken(t: Tracker, a: Advanced, word: Word, records: u64) -> WordAn
 {
     let kind = a.word;
     let settings = t.settings;
-    let packet = t.packet;
-    let here = position(packet, t.count);
+    let here = t.here();
     WordAnswer {
         tracker: t.after(a, word),
         told: Told::Taken {

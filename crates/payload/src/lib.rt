@@ -8,6 +8,7 @@ ghost use Rattle.cdp_running.specs.Tracker.{Good};
 ghost use Rattle.cdp_running.specs.Word.{WordPost};
 ghost use Rattle.payload.specs.Payload.{PayloadPost, answerOf, stop};
 
+mod moved;
 mod quiet;
 mod silent;
 

@@ -6,6 +6,7 @@ ghost use Rattle.words.specs.Word.{wordBytes, wordOf};
 ghost use Rattle.records.specs.Records.{silent};
 ghost use Rattle.cdp_running.specs.Word.{rowsOf};
 ghost use Rattle.payload.specs.Silent.{Ready, Glide};
+use crate::moved;
 use crate::quiet;
 use cdp_running::MAX_WORDS;
 use cdp_running::Tracker;
@@ -130,7 +131,7 @@ pub(crate) fn silent_words(t: Tracker, bytes: &[u8], at: usize) -> Went
             let word = load_at(bytes, i);
             let a = fsm.advance(word);
             if is_silent(cur, a, word) {
-                cur = cur.after(a, word);
+                cur = moved::after(cur, a, word);
                 i = i + Word::SIZE;
             } else {
                 return Went {

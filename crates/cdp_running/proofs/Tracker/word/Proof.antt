@@ -3,7 +3,6 @@
 use borrow.Author.Needs.{needs}
 use borrow.Author.Tests.{not-true, not-false}
 use denote.Ref.{now}
-use Rattle.cdp_running.proofs.Good.{position-low}
 use Rattle.cdp_running.proofs.Calls.{not-ten, ten, as-written, as-taken, word-1, word-2, word-3, of-word, word-4, word-taken}
 use Rattle.cdp_running.proofs.Tracker.word.Statement.{statement}
 use Rattle.cdp_running.proofs.Tracker.word.Tie as tie
@@ -25,31 +24,28 @@ returns-3 c =
     let is = ten (now (s .args .bytes)) (c .before .before .before .before .before .before .before .before .from-buf .ensures) (c .before .before .before .before .before .before .word .given .1) in
     word-3 (s .args .self) (now (s .args .bytes)) (now (s .args .out)) (s .pre) (is .0) (not-false _ (c .before .before .before .if1 .left)) (c .before .if2 .taken) (c .refused3 .ensures)
 
-position-requires : tie.Need-position-requires
-position-requires c κs = (position-low (c .before .before .before .before .before .before .before .before .before .before .before .before .before .before .args .self .packet) (c .before .before .before .before .before .before .before .before .before .before .before .before .before .before .pre .packet), c .before .before .before .before .before .before .before .before .before .before .before .before .before .before .pre .count)
-
 taken-requires : tie.Need-taken-requires
-taken-requires c κs = c .before .before .before .before .before .before .before .before .before .before .before .before .before .before .before .before .before .before .before .before .before .before .pre
+taken-requires c κs = c .before .before .before .before .before .before .before .before .before .before .before .before .before .before .before .before .before .before .before .before .before .pre
 
 returns-4 : tie.Need-returns-4
 returns-4 c =
+    let s = c .before .before .before .before .before .before .before .before .before .before .before .before .before .before .before .before .before .before .before .before .before in
+    let t = s .args .self in
+    let b = now (s .args .bytes) in
+    let is = ten b (c .before .before .before .before .before .before .before .before .before .before .before .before .before .before .before .before .before .before .from-buf .ensures) (c .before .before .before .before .before .before .before .before .before .before .before .before .before .before .before .before .word .given .1) in
+    let wrote = as-written t b (c .before .before .before .before .before .before .before .before .before .advance .ensures) (is .1) (c .before .before .before .before .before .before .before .here .ensures) (c .before .before .before .before .before .before .before .before .rows-of .ensures) (c .before .before .before .before .before .write .ensures) in
+    let d = now (s .args .out) in
+    word-4 t b d (s .pre) (is .0) (not-false _ (c .before .before .before .before .before .before .before .before .before .before .before .before .before .if1 .left)) (c .before .before .before .before .before .before .before .before .before .before .before .if2 .left) (of-word t b d (s .pre) (is .0) (not-false _ (c .before .before .before .before .before .before .before .before .before .before .before .before .before .if1 .left)) (c .before .before .before .before .before .before .before .before .before .before .before .if2 .left) wrote) (c .before .enum-told2 .given .1) (c .refused4 .ensures)
+
+returns-5 : tie.Need-returns-5
+returns-5 c =
     let s = c .before .before .before .before .before .before .before .before .before .before .before .before .before .before .before .before .before .before .before .before .before .before in
     let t = s .args .self in
     let b = now (s .args .bytes) in
     let is = ten b (c .before .before .before .before .before .before .before .before .before .before .before .before .before .before .before .before .before .before .before .from-buf .ensures) (c .before .before .before .before .before .before .before .before .before .before .before .before .before .before .before .before .before .word .given .1) in
-    let wrote = as-written t b (c .before .before .before .before .before .before .before .before .before .advance .ensures) (is .1) (c .before .before .before .before .before .before .before .position .ensures) (c .before .before .before .before .before .before .before .before .rows-of .ensures) (c .before .before .before .before .before .write .ensures) in
+    let wrote = as-written t b (c .before .before .before .before .before .before .before .before .before .before .advance .ensures) (is .1) (c .before .before .before .before .before .before .before .before .here .ensures) (c .before .before .before .before .before .before .before .before .before .rows-of .ensures) (c .before .before .before .before .before .before .write .ensures) in
     let d = now (s .args .out) in
-    word-4 t b d (s .pre) (is .0) (not-false _ (c .before .before .before .before .before .before .before .before .before .before .before .before .before .before .if1 .left)) (c .before .before .before .before .before .before .before .before .before .before .before .before .if2 .left) (of-word t b d (s .pre) (is .0) (not-false _ (c .before .before .before .before .before .before .before .before .before .before .before .before .before .before .if1 .left)) (c .before .before .before .before .before .before .before .before .before .before .before .before .if2 .left) wrote) (c .before .enum-told2 .given .1) (c .refused4 .ensures)
-
-returns-5 : tie.Need-returns-5
-returns-5 c =
-    let s = c .before .before .before .before .before .before .before .before .before .before .before .before .before .before .before .before .before .before .before .before .before .before .before in
-    let t = s .args .self in
-    let b = now (s .args .bytes) in
-    let is = ten b (c .before .before .before .before .before .before .before .before .before .before .before .before .before .before .before .before .before .before .before .before .from-buf .ensures) (c .before .before .before .before .before .before .before .before .before .before .before .before .before .before .before .before .before .before .word .given .1) in
-    let wrote = as-written t b (c .before .before .before .before .before .before .before .before .before .before .advance .ensures) (is .1) (c .before .before .before .before .before .before .before .before .position .ensures) (c .before .before .before .before .before .before .before .before .before .rows-of .ensures) (c .before .before .before .before .before .before .write .ensures) in
-    let d = now (s .args .out) in
-    word-taken t b d (s .pre) (is .0) (not-false _ (c .before .before .before .before .before .before .before .before .before .before .before .before .before .before .before .if1 .left)) (c .before .before .before .before .before .before .before .before .before .before .before .before .before .if2 .left) (of-word t b d (s .pre) (is .0) (not-false _ (c .before .before .before .before .before .before .before .before .before .before .before .before .before .before .before .if1 .left)) (c .before .before .before .before .before .before .before .before .before .before .before .before .before .if2 .left) wrote) (c .before .before .n .given .1) (as-taken t b (c .before .before .before .before .before .before .before .before .before .before .advance .ensures) (is .1) (c .taken .ensures))
+    word-taken t b d (s .pre) (is .0) (not-false _ (c .before .before .before .before .before .before .before .before .before .before .before .before .before .before .if1 .left)) (c .before .before .before .before .before .before .before .before .before .before .before .before .if2 .left) (of-word t b d (s .pre) (is .0) (not-false _ (c .before .before .before .before .before .before .before .before .before .before .before .before .before .before .if1 .left)) (c .before .before .before .before .before .before .before .before .before .before .before .before .if2 .left) wrote) (c .before .before .n .given .1) (as-taken t b (c .before .before .before .before .before .before .before .before .before .before .advance .ensures) (is .1) (c .taken .ensures))
 
 pub word-spec : {M : Type 1} → statement M
-word-spec = tie.close (tie.spec (λ c. search needs) (λ c. search needs) (λ c. search needs) (λ c. search needs) returns (λ c. search needs) returns-2 (λ c. search needs) returns-3 (λ c. search needs) (λ c. search needs) position-requires (λ c. search needs) (λ c. search needs) (λ c. search needs) (λ c. search needs) (λ c. search needs) returns-4 taken-requires (λ c. search needs) returns-5)
+word-spec = tie.close (tie.spec (λ c. search needs) (λ c. search needs) (λ c. search needs) (λ c. search needs) returns (λ c. search needs) returns-2 (λ c. search needs) returns-3 (λ c. search needs) (λ c. search needs) (λ c κs. search needs) (λ c. search needs) (λ c. search needs) (λ c. search needs) (λ c. search needs) (λ c. search needs) returns-4 taken-requires (λ c. search needs) returns-5)
