@@ -3,7 +3,7 @@
 ghost use mathlib.Core.Path.{_≡_};
 ghost use Prim.Native.Nat.{_≤_};
 ghost use Rattle.records.specs.Records.{padded};
-ghost use Rattle.cdp_running.specs.Tracker.{Good, settingsOf, startOf, resetOf, PacketPost, maxPosition, maxWords, positionOf};
+ghost use Rattle.cdp_running.specs.Tracker.{Good, settingsOf, startOf, resetOf, PacketPost, inRange, maxPosition, maxWords, positionOf};
 ghost use Rattle.cdp_running.specs.Word.{positionNow, rowsOf, Outcome, answerOf, WordPost};
 
 pub mod next;
@@ -95,6 +95,14 @@ pub struct WordAnswer {
 pub struct PacketAnswer {
     pub tracker: Tracker,
     pub refusal: u8,
+}
+
+// Whether each field of a packet is in its range. Those that fill their type are.
+pub fn in_range(packet: Packet) -> bool
+    ensures { λ r. ⌜ r ≡ inRange packet ⌝ }
+{
+    (packet.position <= MAX_POSITION)
+        & ((packet.bc <= MAX_PACKET_BC) & ((packet.format == 0) | (packet.format == 2)))
 }
 
 // Where the word after so many stands.
@@ -228,9 +236,7 @@ impl Tracker {
         requires { ⌜ Good self ⌝ }
         ensures { λ r. ⌜ PacketPost self packet r ⌝ }
     {
-        let fits = (packet.position <= MAX_POSITION)
-            & ((packet.bc <= MAX_PACKET_BC) & ((packet.format == 0) | (packet.format == 2)));
-        if !fits {
+        if !in_range(packet) {
             return PacketAnswer {
                 tracker: self,
                 refusal: REFUSED_PACKET,
