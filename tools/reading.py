@@ -1,0 +1,48 @@
+#!/usr/bin/env python3
+"""reading.py: every path and every name that docs/READING.md gives in backquotes stands in the tree. Exit status 1 where one does not."""
+import os
+import re
+import sys
+
+TOP = os.path.dirname(os.path.dirname(os.path.abspath(__file__)))
+CRATES = os.path.join(TOP, 'crates')
+
+
+def files(*ends):
+    for d, _, names in os.walk(CRATES):
+        for n in names:
+            if n.endswith(ends):
+                yield os.path.join(d, n)
+
+
+def main():
+    with open(os.path.join(TOP, 'docs', 'READING.md'), encoding='utf8') as f:
+        text = re.sub(r'```.*?```', '', f.read(), flags=re.S)
+    code = ''
+    for p in files('.rt', '.antt'):
+        with open(p, encoding='utf8') as f:
+            code += f.read() + '\n'
+    words = set(re.findall(r"[^\s(){}\[\].,;:<>&`'\"]+", code))
+    wrong_programs = {os.path.basename(p)[:-5] for p in files('.edit')}
+    crates = set(os.listdir(CRATES))
+    missing, seen = [], 0
+    for name in re.findall(r'`([^`]+)`', text):
+        seen += 1
+        if '/' in name and not name.startswith('.'):
+            path = name.split()[0]
+            if not (os.path.exists(os.path.join(CRATES, path)) or os.path.exists(os.path.join(TOP, path))):
+                missing.append(name)
+            continue
+        if name in wrong_programs or name in crates:
+            continue
+        parts = re.findall(r"[^\s(){}\[\].,;:<>&`'\"]+", name)
+        if not all(p in words or p in crates for p in parts):
+            missing.append(name)
+    for name in missing:
+        print(f'reading: `{name}` of docs/READING.md stands nowhere')
+    if not missing:
+        print(f'reading: {seen} paths and names of docs/READING.md, all there')
+    sys.exit(1 if missing else 0)
+
+
+main()
