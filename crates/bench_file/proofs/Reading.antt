@@ -1,0 +1,198 @@
+-- The reader over a file that is not refused: what holds of such a file, and that the reader gives its packets and words, each packet before
+-- its words, and then the end.
+-- Assumes nothing.
+use Prim.Native.Nat.{ℕ, zero, suc, _+_, _-_, _≤_, _<_}
+use mathlib.Core.Path.{_≡_, refl, sym, ap, subst, _∙_}
+use mathlib.Core.Bool.{Bool, true, false, cond}
+use mathlib.Core.Logic.{⊎-elim}
+use mathlib.Core.List.{List, [], _++_}
+use native.Mathlib.Nat.{eq-or-lt-of-le, add-zero, add-suc, sub-zero}
+use native.Mathlib.Numerals.{add-one}
+use native.Mathlib.Omega.{arith}
+use borrow.Author.Tests.{leb-true, eqb-true, ne-eqb}
+use lib.Dec.{leb, eqb}
+use Rattle.validators.specs.declared.Packet.{Packet}
+use Rattle.cdp_running.specs.Tracker.{inRange, maxWords}
+use Rattle.bench_file.specs.declared.Found.the-variants as F
+use Rattle.bench_file.specs.File.{packets, words, packetPlace, packetAt, countAt, wordPlace, wordsBefore, misfit, packetRefusal, firstRefusal, checkOf}
+use Rattle.bench_file.specs.Items.{Item, wordItems, packetItems, items, itemsFrom}
+use Rattle.bench_file.specs.Reader.{nextOf, Gives, end, packet-first, then-word, Sound, Place, PacketGiven, WordGiven}
+use Rattle.bench_file.proofs.Checking.{fitting, one-more}
+use Rattle.bench_file.proofs.Finding.{packet-there, packet-past, word-there}
+
+-- A choice that is 0 did not take its refusal.
+no-misfit : (b : Bool) (n : ℕ) → cond b 6 n ≡ 0 → (b ≡ false) × (n ≡ 0)
+no-misfit true n e = absurd (omega arith)
+no-misfit false n e = (refl, e)
+
+taken : (b : Bool) (n m : ℕ) → cond b n (suc m) ≡ 0 → (b ≡ true) × (n ≡ 0)
+taken true n m e = (refl, e)
+taken false n m e = absurd (omega arith)
+
+both-none : (n m : ℕ) → cond (eqb n 0) m n ≡ 0 → (n ≡ 0) × (m ≡ 0)
+both-none zero m e = (refl, e)
+both-none (suc n) m e =
+    let k = simp (ne-eqb (suc n) 0 (λ q. omega arith)) at e in
+    absurd (omega arith)
+
+-- With no first refusal no packet has one.
+none-first : (file : List ℕ) (n i : ℕ) → firstRefusal file n i ≡ 0 → (j : ℕ) → i ≤ j → j < i + n → packetRefusal file (packetPlace j) ≡ 0
+unfolding firstRefusal
+none-first file zero i e j h k = absurd (omega arith)
+none-first file (suc n) i e j h k =
+    let here = both-none (packetRefusal file (packetPlace i)) (firstRefusal file n (suc i)) e in
+    ⊎-elim
+    (λ (s : i ≡ j). ap (λ (m : ℕ). packetRefusal file (packetPlace m)) (sym s) ∙ here .0)
+    (λ (s : i < j). none-first file n (suc i) (here .1) j s (omega arith))
+    (eq-or-lt-of-le h)
+
+pub sound : (file : List ℕ) → checkOf file ≡ 0 → Sound file
+unfolding checkOf
+sound file e =
+    let fits = no-misfit (misfit file) _ e in
+    let sums = taken (eqb (wordsBefore file (packets file)) (words file)) _ 6 (fits .1) in
+    let f = fitting file (fits .0) in
+    let none : (i : ℕ) → i < packets file → packetRefusal file (packetPlace i) ≡ 0 = λ i h. none-first file (packets file) 0 (sums .1) i (omega arith) (omega arith) in
+    record {
+      short = f .short;
+      whole = f .whole;
+      packets-few = omega arith;
+      words-few = omega arith;
+      sum = eqb-true _ _ (sums .0);
+      in-range = λ i h. taken (inRange (packetAt file i)) _ 4 (none i h) .0;
+      count = λ i h. leb-true _ _ (taken (leb (countAt file i) maxWords) 0 2 (taken (inRange (packetAt file i)) _ 4 (none i h) .1) .0);
+      inside = λ n h. omega arith;
+    }
+
+-- The packets before a later packet have no fewer words.
+more-words : (file : List ℕ) (i k : ℕ) → wordsBefore file i ≤ wordsBefore file (i + k)
+unfolding wordsBefore
+more-words file i zero = rw (add-zero i) (omega arith)
+more-words file i (suc k) = rw (add-suc i k) (omega (arith, more-words file i k))
+
+module _ {file : List ℕ} (s : Sound file) where
+  words-at-most : (i : ℕ) → i ≤ packets file → wordsBefore file i ≤ words file
+  words-at-most i h =
+      let e : i + (packets file - i) ≡ packets file = omega arith in
+      let m = more-words file i (packets file - i) in
+      let k : wordsBefore file (i + (packets file - i)) ≡ words file = ap (wordsBefore file) e ∙ s .sum in
+      omega arith
+
+  next-word : (i n left : ℕ) → n < words file → nextOf file i n (suc left) ≡ F.Word (wordPlace file n)
+  next-word i n left h = simp (ne-eqb (suc left) 0 (λ q. omega arith)) (word-there file n h (s .inside n h))
+
+  next-packet : (i n : ℕ) → i < packets file → nextOf file i n 0 ≡ F.Packet (packetAt file i) (countAt file i)
+  next-packet i n h =
+      let w = s .whole in
+      packet-there file i h (omega arith)
+
+  -- The words that are left, and then what comes after them.
+  words-given : (left i n : ℕ) (rest : List Item) → n + left ≤ words file → Gives file i (n + left) 0 rest → Gives file i n left (wordItems file left n ++ rest)
+  unfolding wordItems
+  words-given zero i n rest h g = rw (add-zero n) at g
+  words-given (suc left) i n rest h g =
+      let e : n + suc left ≡ suc n + left = omega arith in
+      then-word (next-word i n left (omega arith)) (words-given left i (suc n) rest (omega arith) (subst (λ (m : ℕ). Gives file i m 0 rest) e g))
+
+  packets-given : (k i n : ℕ) → i + k ≡ packets file → n ≡ wordsBefore file i → Gives file i n 0 (packetItems file k i n)
+  unfolding packetItems wordsBefore
+  packets-given zero i n h e = end (packet-past file i (omega arith))
+  packets-given (suc k) i n h e =
+      let most = words-at-most (suc i) (omega arith) in
+      packet-first (next-packet i n (omega arith))
+      (words-given (countAt file i) (suc i) n _ (omega arith) (packets-given k (suc i) (n + countAt file i) (omega arith) (omega arith)))
+
+  -- What a place that the reader comes to is at.
+  pub reached : {i n left : ℕ} → Place file i n left → n + left ≤ words file
+  reached {i} {n} {left} p =
+      let most = words-at-most i (p .within) in
+      let here = p .here in
+      omega arith
+
+  at-packet : (i n : ℕ) → Place file i n 0 → i < packets file → PacketGiven file i n 0 (packetAt file i) (countAt file i)
+  unfolding wordItems packetItems
+  at-packet i n p h =
+      let e : packets file - i ≡ suc (packets file - (i + 1)) = omega arith in
+      let more = one-more file i in
+      let here = p .here in
+      record {
+        in-range = s .in-range i h;
+        few = s .count i h;
+        next = record { within = omega arith; here = omega arith };
+        comes = rw (e, add-zero n, add-one i);
+      }
+
+  at-word : (i n left : ℕ) → Place file i n (suc left) → WordGiven file i n (suc left) (wordPlace file n)
+  unfolding wordItems
+  at-word i n left p =
+      let most = reached p in
+      let here = p .here in
+      let less : suc left - 1 ≡ left = omega arith in
+      let same : n + suc left ≡ suc n + left = omega arith in
+      record {
+        one-left = omega arith;
+        inside = s .inside n (omega arith);
+        next = record { within = p .within; here = omega arith };
+        comes = rw (less, add-one n, same);
+      }
+
+  at-end : (i n : ℕ) → i ≡ packets file → itemsFrom file i n 0 ≡ []
+  unfolding wordItems packetItems
+  at-end i n h =
+      let e : packets file - i ≡ 0 = omega arith in
+      rw e
+
+  -- What the reader's answer means for what is to come: a packet, a word, the end.
+  pub packet-given : {i n left count : ℕ} {p : Packet} → Place file i n left → nextOf file i n left ≡ F.Packet p count → PacketGiven file i n left p count
+  packet-given {i} {n} {left = zero} {count} {p} place e =
+      ⊎-elim
+      (λ (h : i ≡ packets file). let z : _≡_ {A = ℕ} 0 1 = cc (packet-past file i (omega arith)) in absurd (omega arith))
+      (λ (h : i < packets file).
+      let given = next-packet i n h in
+      let same : packetAt file i ≡ p = cc in
+      let counts : countAt file i ≡ count = cc in
+      rw (← same, ← counts) (at-packet i n place h))
+      (eq-or-lt-of-le (place .within))
+  packet-given {i} {n} {left = suc left} place e =
+      let most = reached place in
+      let given = next-word i n left (omega arith) in
+      let z : _≡_ {A = ℕ} 0 1 = cc in
+      absurd (omega arith)
+
+  pub word-given : {i n left at : ℕ} → Place file i n left → nextOf file i n left ≡ F.Word at → WordGiven file i n left at
+  word-given {i} {n} {left = zero} place e =
+      ⊎-elim
+      (λ (h : i ≡ packets file). let z : _≡_ {A = ℕ} 0 1 = cc (packet-past file i (omega arith)) in absurd (omega arith))
+      (λ (h : i < packets file). let z : _≡_ {A = ℕ} 0 1 = cc (next-packet i n h) in absurd (omega arith))
+      (eq-or-lt-of-le (place .within))
+  word-given {i} {n} {left = suc left} {at} place e =
+      let most = reached place in
+      let given = next-word i n left (omega arith) in
+      let same : wordPlace file n ≡ at = cc in
+      rw (← same) (at-word i n left place)
+
+  pub end-given : {i n left : ℕ} → Place file i n left → nextOf file i n left ≡ F.End → itemsFrom file i n left ≡ []
+  end-given {i} {n} {left = zero} place e =
+      ⊎-elim
+      (λ (h : i ≡ packets file). at-end i n h)
+      (λ (h : i < packets file). let z : _≡_ {A = ℕ} 0 1 = cc (next-packet i n h) in absurd (omega arith))
+      (eq-or-lt-of-le (place .within))
+  end-given {i} {n} {left = suc left} place e =
+      let most = reached place in
+      let given = next-word i n left (omega arith) in
+      let z : _≡_ {A = ℕ} 0 1 = cc in
+      absurd (omega arith)
+
+-- The place at the start, and that all is to come there.
+pub at-start : (file : List ℕ) → Place file 0 0 0
+unfolding wordsBefore
+at-start file = record { within = omega arith; here = refl }
+
+pub all-to-come : (file : List ℕ) → itemsFrom file 0 0 0 ≡ items file
+unfolding items wordItems
+all-to-come file = simp sub-zero
+
+-- Over a good file the reader gives the packets and words of the definition, in order, and then the end.
+pub reader-gives : (file : List ℕ) → checkOf file ≡ 0 → Gives file 0 0 0 (items file)
+unfolding items wordsBefore
+reader-gives file e = packets-given (sound file e) (packets file) 0 0 (omega arith) refl

@@ -1,0 +1,11 @@
+-- `load_packet` meets its contract: each field at its place.
+-- Assumes nothing.
+use borrow.Author.Needs.{needs}
+use Rattle.bench_file.proofs.load_packet.Statement.{statement}
+use Rattle.bench_file.proofs.load_packet.Tie as tie
+
+returns : tie.Need-returns
+returns c = simp (c .before .before .before .before .before .before .get64 .ensures, c .before .before .before .before .before .get32 .ensures .0, c .before .before .before .before .get322 .ensures .0, c .before .before .before .get16 .ensures .0, c .before .before .get162 .ensures .0, c .before .get8 .ensures .0, c .get82 .ensures .0)
+
+pub load-packet-spec : {M : Type 1} → statement M
+load-packet-spec = tie.close (tie.spec (search needs) (search needs) (search needs) (search needs) (search needs) (search needs) (search needs) (search needs) (search needs) (search needs) (search needs) (search needs) (search needs) (search needs) (search needs) (search needs) (search needs) (search needs) (search needs) returns)

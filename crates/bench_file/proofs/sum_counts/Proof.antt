@@ -1,0 +1,34 @@
+-- `sum_counts` meets its contract: the sum so far is that of the packets passed.
+-- Assumes nothing.
+use Prim.Native.Nat.{_-_, _*_, _≤_}
+use mathlib.Core.Path.{_≡_, ap, _∙_}
+use native.Mathlib.Omega.{arith}
+use denote.Ref.{now}
+use Rattle.bench_file.specs.File.{wordsBefore}
+use Rattle.bench_file.proofs.Checking.{one-more}
+use borrow.Author.Needs.{needs}
+use Rattle.bench_file.proofs.sum_counts.Statement.{statement}
+use Rattle.bench_file.proofs.sum_counts.Tie as tie
+
+abbrev Inv-loop : tie.InvT-loop
+Inv-loop file packets sum₀ i₀ sum i = (i ≤ packets) × (sum ≡ wordsBefore file i) × (sum ≤ 65535 * i)
+
+abbrev μ-loop : tie.MeasureT-loop
+μ-loop file packets sum₀ i₀ sum i = packets - i
+
+loop-holds : tie.Need-loop-holds Inv-loop μ-loop
+unfolding wordsBefore
+loop-holds c = search needs
+
+loop-again : tie.Need-loop-again Inv-loop μ-loop
+loop-again c =
+    let more = one-more (now (c .before .before .before .before .args .file)) (c .before .before .loop .i) in
+    (omega arith, omega (arith, c .get16 .ensures .0), omega (arith, c .get16 .ensures .1))
+
+returns : tie.Need-returns Inv-loop μ-loop
+returns c =
+    let all : c .before .loop .i ≡ c .before .before .before .args .packets = omega arith in
+    c .before .loop .inv .1 ∙ ap (wordsBefore (now (c .before .before .before .args .file))) all
+
+pub sum-counts-spec : {M : Type 1} → statement M
+sum-counts-spec = tie.close (tie.spec Inv-loop μ-loop loop-holds (search needs) (search needs) (search needs) (search needs) (search needs) (search needs) (search needs) loop-again returns)

@@ -1,0 +1,228 @@
+// The bench file: whether bytes are one, and a reader that gives its packets and words in order.
+// Document 01, "Bench file", and the refusals 6, 7, 5, 3 of a file.
+ghost use mathlib.Core.Path.{_≡_};
+ghost use Prim.Native.Nat.{_+_, _≤_};
+ghost use lib.ListN.{length};
+ghost use Rattle.bench_file.specs.File.{packetBytes, packetPlace, packetOf, wordsBefore, misfit, packetRefusal, firstRefusal, checkOf};
+ghost use Rattle.bench_file.specs.Reader.{readerAt, packetFound, wordFound, nextOf};
+
+mod little_endian;
+
+use cdp_running::MAX_WORDS;
+use cdp_running::REFUSED_FULL;
+use cdp_running::REFUSED_PACKET;
+use little_endian::get8;
+use little_endian::get16;
+use little_endian::get32;
+use little_endian::get64;
+use validators::Packet;
+use words::Word;
+
+// The longest file.
+pub const MOST_BYTES: usize = 60000;
+
+pub const HEADER_BYTES: usize = 16;
+
+pub const PACKET_BYTES: usize = 24;
+
+// Refusals of a file, beside those of its packets.
+pub const REFUSED_FILE: u8 = 6;
+
+pub const REFUSED_COUNTS: u8 = 7;
+
+// A file and a place in it: the next packet, and the next word of the whole file, both from 0.
+pub struct FileReader<'a> {
+    pub bytes: &'a [u8],
+    pub packet: usize,
+    pub word: usize,
+}
+
+// What comes next: a packet and how many words it has, a word of ten bytes at a place of the file, or the end.
+pub enum Found {
+    Packet { packet: Packet, words: u16 },
+    Word { at: usize },
+    End,
+}
+
+// The packet whose 24 bytes stand at a place.
+fn load_packet(file: &[u8], at: usize) -> Packet
+    requires { ⌜ at + packetBytes ≤ length (now file) ⌝ }
+    ensures { λ r. ⌜ r ≡ packetOf (now (file .entry)) at ⌝ }
+{
+    Packet {
+        position: get64(file, at),
+        orbit: get32(file, at + 8) as u32,
+        trigger: get32(file, at + 12) as u32,
+        bc: get16(file, at + 16) as u16,
+        page: get16(file, at + 18) as u16,
+        stop: get8(file, at + 20) as u8,
+        format: get8(file, at + 21) as u8,
+    }
+}
+
+// Refusal 6: the length and the offsets are not those of a file.
+fn is_misfit(file: &[u8]) -> bool
+    ensures { λ r. ⌜ r ≡ misfit (now (file .entry)) ⌝ }
+{
+    let length = file.len();
+    if length < HEADER_BYTES {
+        return true;
+    }
+    let packets = get32(file, 0) as usize;
+    let words = get32(file, 4) as usize;
+    let packets_at = get32(file, 8) as usize;
+    let words_at = get32(file, 12) as usize;
+    (MOST_BYTES < length)
+        | ((packets_at != HEADER_BYTES)
+            | ((words_at != HEADER_BYTES + PACKET_BYTES * packets)
+                | (length != words_at + Word::SIZE * words)))
+}
+
+// The sum of the word counts of the first packets.
+fn sum_counts(file: &[u8], packets: usize) -> u64
+    requires { ⌜ packetPlace packets ≤ length (now file) ⌝ }
+    requires { ⌜ packets ≤ 60000 ⌝ }
+    ensures { λ r. ⌜ r ≡ wordsBefore (now (file .entry)) packets ⌝ }
+{
+    let mut sum: u64 = 0;
+    let mut i: usize = 0;
+    while i < packets {
+        sum = sum + get16(file, HEADER_BYTES + PACKET_BYTES * i + 22);
+        i = i + 1;
+    }
+    sum
+}
+
+// Refusals 5 and 3 of the packet at a place, or 0.
+fn packet_refusal(file: &[u8], at: usize) -> u8
+    requires { ⌜ at + packetBytes ≤ length (now file) ⌝ }
+    ensures { λ r. ⌜ r ≡ packetRefusal (now (file .entry)) at ⌝ }
+{
+    if !cdp_running::in_range(load_packet(file, at)) {
+        return REFUSED_PACKET;
+    }
+    if get16(file, at + 22) <= MAX_WORDS as u64 {
+        0
+    } else {
+        REFUSED_FULL
+    }
+}
+
+// The first of these refusals, or 0.
+fn first_refusal(file: &[u8], packets: usize) -> u8
+    requires { ⌜ packetPlace packets ≤ length (now file) ⌝ }
+    ensures { λ r. ⌜ r ≡ firstRefusal (now (file .entry)) packets 0 ⌝ }
+{
+    let mut i: usize = 0;
+    while i < packets {
+        let refusal = packet_refusal(file, HEADER_BYTES + PACKET_BYTES * i);
+        if refusal != 0 {
+            return refusal;
+        }
+        i = i + 1;
+    }
+    0
+}
+
+// The refusal of a file: 6, 7, then for each packet 5, 3; or 0.
+pub fn check(file: &[u8]) -> u8
+    ensures { λ r. ⌜ r ≡ checkOf (now (file .entry)) ⌝ }
+{
+    if is_misfit(file) {
+        return REFUSED_FILE;
+    }
+    let packets = get32(file, 0) as usize;
+    if sum_counts(file, packets) != get32(file, 4) {
+        return REFUSED_COUNTS;
+    }
+    first_refusal(file, packets)
+}
+
+// A packet of the file, or the end where there is none.
+fn packet_at(file: &[u8], packet: usize) -> Found
+    ensures { λ r. ⌜ r ≡ packetFound (now (file .entry)) packet ⌝ }
+{
+    if file.len() < HEADER_BYTES {
+        return Found::End;
+    }
+    if get32(file, 0) as usize <= packet {
+        return Found::End;
+    }
+    let at = HEADER_BYTES + PACKET_BYTES * packet;
+    if file.len() < at + PACKET_BYTES {
+        return Found::End;
+    }
+    Found::Packet {
+        packet: load_packet(file, at),
+        words: get16(file, at + 22) as u16,
+    }
+}
+
+// A word of the file, or the end where there is none.
+fn word_at(file: &[u8], word: usize) -> Found
+    ensures { λ r. ⌜ r ≡ wordFound (now (file .entry)) word ⌝ }
+{
+    if file.len() < HEADER_BYTES {
+        return Found::End;
+    }
+    if get32(file, 4) as usize <= word {
+        return Found::End;
+    }
+    let packets = get32(file, 0) as usize;
+    let at = HEADER_BYTES + PACKET_BYTES * packets + Word::SIZE * word;
+    if file.len() < at + Word::SIZE {
+        return Found::End;
+    }
+    Found::Word { at: at }
+}
+
+// A reader at a place.
+pub fn reader_at<'a>(bytes: &'a [u8], packet: usize, word: usize) -> FileReader<'a>
+    ensures { λ r. ⌜ r ≡ readerAt (bytes .entry) packet word ⌝ }
+{
+    FileReader {
+        bytes,
+        packet,
+        word,
+    }
+}
+
+// The reader's next packet, or the end.
+pub fn next_packet<'a>(reader: FileReader<'a>) -> Found
+    ensures { λ r. ⌜ r ≡ packetFound (now (reader .entry .bytes)) (reader .entry .packet) ⌝ }
+{
+    packet_at(reader.bytes, reader.packet)
+}
+
+// The reader's next word, or the end.
+pub fn next_word<'a>(reader: FileReader<'a>) -> Found
+    ensures { λ r. ⌜ r ≡ wordFound (now (reader .entry .bytes)) (reader .entry .word) ⌝ }
+{
+    word_at(reader.bytes, reader.word)
+}
+
+// From a plain place to a reader and its next packet.
+fn packet_from(bytes: &[u8], packet: usize, word: usize) -> Found
+    ensures { λ r. ⌜ r ≡ packetFound (now (bytes .entry)) packet ⌝ }
+{
+    next_packet(reader_at(bytes, packet, word))
+}
+
+// From a plain place to a reader and its next word.
+fn word_from(bytes: &[u8], packet: usize, word: usize) -> Found
+    ensures { λ r. ⌜ r ≡ wordFound (now (bytes .entry)) word ⌝ }
+{
+    next_word(reader_at(bytes, packet, word))
+}
+
+// What comes next at a place, where so many words of the packet at hand are left: a word while any is, then the next packet, then the end.
+// The caller keeps the place: past a packet its words are left, past a word one less.
+pub fn next(file: &[u8], packet: usize, word: usize, left: usize) -> Found
+    ensures { λ r. ⌜ r ≡ nextOf (now (file .entry)) packet word left ⌝ }
+{
+    if left == 0 {
+        packet_from(file, packet, word)
+    } else {
+        word_from(file, packet, word)
+    }
+}
