@@ -1,11 +1,13 @@
 #!/bin/sh
 # run.sh: the benchmark, one command: khz_payload and khz_word of an archive, the plain C version and the given Rust on the same streams.
 #
-#     bench/run.sh [--instructions] [ARCHIVE]
+#     bench/run.sh [--instructions] [--unproved | ARCHIVE]
 #
-#   ARCHIVE         default target/staticlib/libkhandzorul.a; where there is none, khz is left out and the output says so
+#   ARCHIVE         of the library, for this machine; default: tools/native-lib.sh makes it. Where that can't be, khz is left out, and the
+#                   output says so. What is shipped is x86-64: on another machine a figure is of the same code, compiled for that machine
+#   --unproved      makes it without proving it first
 #   --instructions  instructions a word by valgrind's callgrind, in place of times
-#   RUST_SRC        the given Rust text, default /work/shared/docs/src; without it or without cargo nothing is measured
+#   RUST_SRC        the given Rust text, default ../shared/docs/src beside the repository; without it or without cargo nothing is measured
 #   BUILD_DIR       where the Rust is built; default: a temporary folder
 #   WORDS, ROUNDS   size of a stream (default 200000) and interleaved rounds (default 31)
 #   CC              the C compiler, default cc
@@ -15,7 +17,9 @@ set -eu
 cd "$(dirname "$0")/.."
 instructions=
 [ "${1:-}" != --instructions ] || { instructions=1; shift; }
-archive=${1:-target/staticlib/libkhandzorul.a}
+unproved=
+[ "${1:-}" != --unproved ] || { unproved=--unproved; shift; }
+archive=${1:-}
 words=${WORDS:-200000}
 cc=${CC:-cc}
 flags='-std=c11 -O2'
@@ -34,12 +38,17 @@ cpu=$(sed -n 's/^model name[^:]*: *//p' /proc/cpuinfo 2>/dev/null | head -n 1)
 echo "machine   $(uname -m), ${cpu:-cpu not known}, $(getconf _NPROCESSORS_ONLN) cpus"
 echo "cc        $($cc --version | head -n 1), $flags"
 echo "rustc     $(rustc --version), release, fat LTO"
+if [ -z "$archive" ]; then
+    archive=$work/libkhandzorul.a
+    sh tools/native-lib.sh $unproved khandzorul "$archive" >"$work/made" 2>"$work/why" || tail -n 1 "$work/why" >&2
+    [ ! -s "$work/made" ] || echo "library   $(sed 's/^native-lib: //' "$work/made")"
+fi
 if [ -f "$archive" ]; then
     echo "archive   $archive, $(cksum <"$archive" | tr ' ' '/') (checksum/bytes)"
     $cc $flags -Wall -Wextra -I include bench/bench.c bench/plain.c "$archive" -o "$work/bench"
     columns='khz_payload khz_word plain_payload plain_word'
 else
-    echo "archive   left out: no $archive"
+    echo "archive   left out: there is none"
     $cc $flags -Wall -Wextra -DNO_KHZ -I include bench/bench.c bench/plain.c -o "$work/bench"
     columns='plain_payload plain_word'
 fi

@@ -8,12 +8,22 @@ kit_identity() {
     [ "$here" = "$wanted" ] || echo "note: this machine has the kit '$here'; the README names '$wanted'"
 }
 
-# Runs a proved program, on x86-64 and, through the kit's emulator, on aarch64.
-kit_run() { # NAME
+# Sets kit, its folder; tools, its compiler and C library for this machine; emulator, empty on x86-64.
+kit_find() {
     kit=$(cd "$(dirname "$(readlink -f "$(command -v rt)")")/.." && pwd -P)
     tools=$kit/on/$(uname -m)/toolchain
     [ -d "$tools" ] || tools=$kit/toolchain
     emulator=$tools/bin/qemu-x86_64
     [ -x "$emulator" ] || emulator=
-    ${emulator:+"$emulator"} "$tools/lib/ld-linux-x86-64.so.2" --library-path "$tools/lib" "target/bin/$1"
+}
+
+# Runs an x86-64 program, on x86-64 and, through the kit's emulator, on aarch64.
+kit_start() { # FILE [ARGUMENT..]
+    kit_find
+    ${emulator:+"$emulator"} "$tools/lib/ld-linux-x86-64.so.2" --library-path "$tools/lib" "$@"
+}
+
+# Runs a proved program.
+kit_run() { # NAME
+    kit_start "target/bin/$1"
 }

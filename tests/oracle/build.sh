@@ -1,12 +1,12 @@
 #!/bin/sh
 # build.sh: copies the given Rust text, unchanged, beside the stand-ins of shims/ and builds the driver (release, fat LTO).
-#   RUST_SRC    folder with the given text: as a tree (fastpasta/src/..) or flat (src--fastpasta--src--..txt). Default: /work/shared/docs/src
+#   RUST_SRC    folder with the given text: as a tree (fastpasta/src/..) or flat (src--fastpasta--src--..txt). Default: ../shared/docs/src, beside the repository
 #   BUILD_DIR   where to build. Must be given, and lie outside the repository: the given text is no part of it.
 #   WITH_DEBUG  set: builds the debug driver too (overflow checks on)
 # Prints the driver's path. Exit status 3 and a reason on standard error: the text or cargo is not there.
 set -eu
 here=$(cd "$(dirname "$0")" && pwd)
-src=${RUST_SRC:-/work/shared/docs/src}
+src=${RUST_SRC:-$here/../../../shared/docs/src}
 build=${BUILD_DIR:?set BUILD_DIR}
 
 find_text() { # the path of a given file, or nothing

@@ -7,10 +7,10 @@ Kinds, guesses, frames, positions, codes, first, second and their order are comp
 as model.py says from the input alone; anything else is unexplained and fails the run. The library's side also checks what the header
 promises (khz_driver -c). Everything is built in a temporary folder.
 
-    --lib     the archive, default target/staticlib/libkhandzorul.a; --plain takes bench/plain.c in its place
+    --lib     the archive, for this machine; default: tools/native-lib.sh makes it. --plain takes bench/plain.c in its place
     --build   builds the Rust in DIR and leaves it there for the next run
     --keep    leaves the calls and both sides' answers in DIR: calls.txt, ours.txt, rust.txt
-    RUST_SRC  the given Rust text, default /work/shared/docs/src; without it, or without cargo, the comparison is left out, and the last
+    RUST_SRC  the given Rust text, default ../shared/docs/src beside the repository; without it, or without cargo, the comparison is left out, and the last
               line says so
     CC, CFLAGS  the C compiler (default cc) and more flags for it
 """
@@ -162,7 +162,7 @@ def report(t, smallest):
 
 def main():
     p = argparse.ArgumentParser(description='The library and the given Rust on the same call sequences.')
-    p.add_argument('--lib', default=os.path.join(ROOT, 'target', 'staticlib', 'libkhandzorul.a'))
+    p.add_argument('--lib')
     p.add_argument('--plain', action='store_true')
     p.add_argument('--size', choices=generate.SIZES, default='short')
     p.add_argument('--seed', type=int, default=1)
@@ -173,12 +173,15 @@ def main():
         work = a.keep or folder
         os.makedirs(work, exist_ok=True)
         calls, ours, rust = (os.path.join(work, n) for n in ('calls.txt', 'ours.txt', 'rust.txt'))
-        if not a.plain and not os.path.exists(a.lib):
-            raise Failed('no archive at %s' % a.lib)
-        driver = build_ours(folder, a.lib, os.path.join(ROOT, 'bench', 'plain.c') if a.plain else None)
+        archive = a.lib or os.path.join(folder, 'libkhandzorul.a')
+        if not a.plain and not a.lib:
+            subprocess.run(['sh', os.path.join(ROOT, 'tools', 'native-lib.sh'), 'khandzorul', archive])
+        if not a.plain and not os.path.exists(archive):
+            raise Failed('no archive%s' % (' at ' + a.lib if a.lib else ''))
+        driver = build_ours(folder, archive, os.path.join(ROOT, 'bench', 'plain.c') if a.plain else None)
         smallest = make_calls(calls, a.seed, a.size)
         run([driver, '-c'], calls, ours)
-        print('oracle: the promises of khandzorul.h hold on these sequences (%s)' % ('bench/plain.c' if a.plain else a.lib), flush=True)
+        print('oracle: the promises of khandzorul.h hold on these sequences (%s)' % ('bench/plain.c' if a.plain else archive), flush=True)
         run([build_rust(a.build or os.path.join(folder, 'rust'))], calls, rust)
         return report(compare(calls, ours, rust), smallest)
 

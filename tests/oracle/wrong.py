@@ -1,7 +1,7 @@
 #!/usr/bin/env python3
 """wrong.py: wrong versions of bench/plain.c, each of which the short comparison must notice. It tests the comparison, not the library.
 
-    wrong.py [--seed N] [--build DIR]
+    wrong.py [--seed N] [--every K] [--build DIR]        --every: a sample, each K-th of them
 
 Each entry is a name, a text that stands once in plain.c, and what to put in its place.
 """
@@ -167,8 +167,10 @@ def edited(text, entry):
 def main():
     p = argparse.ArgumentParser(description='Wrong versions of plain.c that the comparison must notice.')
     p.add_argument('--seed', type=int, default=1)
+    p.add_argument('--every', type=int, default=1)
     p.add_argument('--build')
     a = p.parse_args()
+    wrong = WRONG[::a.every]
     os.environ['CFLAGS'] = '-O1 -w'
     with open(os.path.join(compare.ROOT, 'bench', 'plain.c')) as f:
         text = f.read()
@@ -177,7 +179,7 @@ def main():
         calls, ours, rust, plain = (os.path.join(folder, n) for n in ('calls.txt', 'ours.txt', 'rust.txt', 'plain.c'))
         smallest = compare.make_calls(calls, a.seed, 'short')
         compare.run([compare.build_rust(a.build or os.path.join(folder, 'rust'))], calls, rust)
-        for entry in [('as it is', '', '', 0)] + WRONG:
+        for entry in [('as it is', '', '', 0)] + wrong:
             changed = edited(text, entry)
             if changed is None:
                 raise compare.Failed('%s: its text does not stand once in plain.c' % entry[0])
@@ -195,7 +197,7 @@ def main():
             if right != (entry[0] == 'as it is'):
                 missed += 1
                 print('wrong: %s %s' % (entry[0], 'passes' if right else 'is refused'), flush=True)
-    print('wrong: %d wrong versions, %d not noticed' % (len(WRONG), missed))
+    print('wrong: %d wrong versions%s, %d not noticed' % (len(wrong), ' of %d' % len(WRONG) if len(wrong) < len(WRONG) else '', missed))
     return missed == 0
 
 

@@ -1,0 +1,15 @@
+-- `same_records` is safe and ends: it looks at no more than six records.
+-- Assumes nothing.
+use borrow.Author.Needs.{needs}
+use Prim.Native.Nat.{_≤_, _-_}
+use Rattle.vectors.proofs.same_records.Statement.{statement}
+use Rattle.vectors.proofs.same_records.Tie as tie
+
+abbrev Inv-loop : tie.InvT-loop
+Inv-loop fd out n same₀ i₀ i-end same i = (i ≤ i-end) × (i-end ≤ 6)
+
+abbrev μ-loop : tie.MeasureT-loop
+μ-loop fd out n same₀ i₀ i-end same i = i-end - i
+
+pub same-records-spec : {M : Type 1} → statement M
+same-records-spec = tie.close (tie.spec Inv-loop μ-loop (search needs) (search needs) (search needs) (search needs) (search needs) (search needs) (search needs))

@@ -1,0 +1,369 @@
+// Replays recorded calls, and compares each answer with the one that the given Rust gave. tests/oracle/record.py made the files of data/ and
+// says how they are written. Document 01, "At the edges": "The rest, and the differential runs, are done by a program."
+ghost use Prim.Native.Nat.{_+_, _<_, _≤_};
+ghost use lib.ListN.{length};
+ghost use Rattle.cdp_running.specs.Tracker.{Good};
+use cdp_running::FrameTold;
+use cdp_running::Told;
+use cdp_running::Tracker;
+use validators::Packet;
+use validators::Settings;
+
+// The most calls of a file.
+const MOST: u64 = 65536;
+
+// The numbers of a record, and the most records of a word.
+const RECORD: usize = 4;
+
+const RECORDS: u8 = 6;
+
+// What comes next in a file. Whole: as many bytes as were asked for; behind them stand zeros.
+struct Part {
+    whole: bool,
+    bytes: [u8; 22],
+}
+
+// The tracker after a call of the file, and what the call was: a start, a word, one whose answer differs, the last one.
+struct Went {
+    tracker: Tracker,
+    start: bool,
+    word: bool,
+    differs: bool,
+    last: bool,
+}
+
+// What was compared in a file.
+struct Tally {
+    sequences: u32,
+    words: u32,
+    differ: u32,
+}
+
+fn fill(fd: i32, bytes: &mut [u8], n: usize) -> usize
+    requires { ⌜ n ≤ length (now bytes) ⌝ }
+{
+    io::read_full(fd, &mut bytes[..n])
+}
+
+fn take(fd: i32, n: usize) -> Part
+    requires { ⌜ n ≤ 22 ⌝ }
+{
+    let mut bytes = [0u8; 22];
+    let got = fill(fd, &mut bytes, n);
+    Part {
+        whole: got == n,
+        bytes: bytes,
+    }
+}
+
+fn wide(x: u8) -> u64
+    ensures { λ r. ⌜ r < 256 ⌝ }
+{
+    x as u64
+}
+
+fn one(b: bool) -> u32
+    ensures { λ r. ⌜ r ≤ 1 ⌝ }
+{
+    if b { 1 } else { 0 }
+}
+
+// Numbers of two, four and eight bytes.
+fn two(b: &[u8; 22], at: usize) -> u16
+    requires { ⌜ at + 2 ≤ 22 ⌝ }
+{
+    (wide(b[at]) + 256 * wide(b[at + 1])) as u16
+}
+
+fn four(b: &[u8; 22], at: usize) -> u32
+    requires { ⌜ at + 4 ≤ 22 ⌝ }
+{
+    two(b, at) as u32 + 65536 * (two(b, at + 2) as u32)
+}
+
+fn eight(b: &[u8; 22], at: usize) -> u64
+    requires { ⌜ at + 8 ≤ 22 ⌝ }
+{
+    four(b, at) as u64 + 4294967296 * (four(b, at + 4) as u64)
+}
+
+fn settings_of(b: &[u8; 22]) -> Settings {
+    Settings {
+        running: b[0] == 1,
+        frames: b[1] == 1,
+        periodic: b[2] == 1,
+        period: two(b, 3),
+    }
+}
+
+fn packet_of(b: &[u8; 22]) -> Packet {
+    Packet {
+        position: eight(b, 0),
+        orbit: four(b, 8),
+        trigger: four(b, 12),
+        bc: two(b, 16),
+        page: two(b, 18),
+        stop: b[20],
+        format: b[21],
+    }
+}
+
+// Is record i the one that the file has next?
+fn same_record(fd: i32, out: &[u64; 24], i: usize) -> bool
+    requires { ⌜ i < 6 ⌝ }
+{
+    let next = take(fd, 18);
+    let b = next.bytes;
+    let at = RECORD * i;
+    let there = (out[at] == eight(&b, 0)) & (out[at + 1] == two(&b, 8) as u64);
+    let numbers = (out[at + 2] == four(&b, 10) as u64) & (out[at + 3] == four(&b, 14) as u64);
+    next.whole & (there & numbers)
+}
+
+fn same_records(fd: i32, out: &[u64; 24], n: u8) -> bool {
+    if RECORDS < n {
+        return false;
+    }
+    let mut same = true;
+    for i in 0..n as usize {
+        let this = same_record(fd, out, i);
+        same = same & this;
+    }
+    same
+}
+
+// Is a frame, by its number and what the file has next, the one told?
+fn same_frame(fd: i32, told: FrameTold, frame: u8) -> bool {
+    let mut closed = Part {
+        whole: true,
+        bytes: [0; 22],
+    };
+    if frame == 2 {
+        closed = take(fd, 16);
+    }
+    let b = closed.bytes;
+    let is = match told {
+        FrameTold::Nothing => frame == 0,
+        FrameTold::Opened => frame == 1,
+        FrameTold::Closed { start, end } => {
+            (frame == 2) & ((start == eight(&b, 0)) & (end == eight(&b, 8)))
+        }
+    };
+    closed.whole & is
+}
+
+// Is the answer to a word the one that the file has next: kind, guessed, frame, number of records, and what hangs on these?
+fn same_answer(fd: i32, told: Told, out: &[u64; 24]) -> bool {
+    let next = take(fd, 4);
+    let b = next.bytes;
+    match told {
+        Told::Taken {
+            kind,
+            guessed,
+            records,
+            frame,
+            lanes,
+        } => {
+            let as_kind = payload_fsm::kind_number(kind) == b[0];
+            let as_guess = one(guessed) == b[1] as u32;
+            let as_frame = same_frame(fd, frame, b[2]);
+            let as_count = records == wide(b[3]);
+            let as_records = same_records(fd, out, b[3]);
+            next.whole & (as_kind & (as_guess & (as_frame & (as_count & as_records))))
+        }
+        Told::Refused(n) => false,
+    }
+}
+
+fn word(t: Tracker, fd: i32) -> Went
+    requires { ⌜ Good t ⌝ }
+    ensures { λ r. ⌜ Good (r .tracker) ⌝ }
+{
+    let mut bytes = [0u8; 10];
+    let got = io::read_full(fd, &mut bytes);
+    let mut out = [0u64; 24];
+    let a = t.word(&bytes[..got], &mut out);
+    let told = a.told;
+    let after = a.tracker;
+    let same = same_answer(fd, told, &out);
+    Went {
+        tracker: after,
+        start: false,
+        word: true,
+        differs: !same,
+        last: false,
+    }
+}
+
+fn start(fd: i32) -> Went
+    ensures { λ r. ⌜ Good (r .tracker) ⌝ }
+{
+    let next = take(fd, 5);
+    let b = next.bytes;
+    let settings = settings_of(&b);
+    let t = Tracker::start(settings);
+    Went {
+        tracker: t,
+        start: true,
+        word: false,
+        differs: !next.whole,
+        last: false,
+    }
+}
+
+fn packet(t: Tracker, fd: i32) -> Went
+    requires { ⌜ Good t ⌝ }
+    ensures { λ r. ⌜ Good (r .tracker) ⌝ }
+{
+    let next = take(fd, 22);
+    let b = next.bytes;
+    let header = packet_of(&b);
+    let a = t.packet(header);
+    let after = a.tracker;
+    Went {
+        tracker: after,
+        start: false,
+        word: false,
+        differs: !(next.whole & (a.refusal == 0)),
+        last: false,
+    }
+}
+
+fn reset(t: Tracker) -> Went
+    requires { ⌜ Good t ⌝ }
+    ensures { λ r. ⌜ Good (r .tracker) ⌝ }
+{
+    let after = t.reset();
+    Went {
+        tracker: after,
+        start: false,
+        word: false,
+        differs: false,
+        last: false,
+    }
+}
+
+// The end of the file, or a call that there is none of.
+fn end(t: Tracker, broken: bool) -> Went
+    requires { ⌜ Good t ⌝ }
+    ensures { λ r. ⌜ Good (r .tracker) ⌝ }
+{
+    Went {
+        tracker: t,
+        start: false,
+        word: false,
+        differs: broken,
+        last: true,
+    }
+}
+
+// The next call of the file, by its number.
+fn step(t: Tracker, fd: i32) -> Went
+    requires { ⌜ Good t ⌝ }
+    ensures { λ r. ⌜ Good (r .tracker) ⌝ }
+{
+    let next = take(fd, 1);
+    let b = next.bytes;
+    if !next.whole {
+        return end(t, false);
+    }
+    match b[0] {
+        0 => start(fd),
+        1 => packet(t, fd),
+        2 => reset(t),
+        3 => word(t, fd),
+        _ => end(t, true),
+    }
+}
+
+// All calls of a file.
+fn replay(fd: i32) -> Tally {
+    let mut t = Tracker::start(Settings {
+        running: false,
+        frames: false,
+        periodic: false,
+        period: 0,
+    });
+    let mut y = Tally {
+        sequences: 0,
+        words: 0,
+        differ: 0,
+    };
+    for n in 0..MOST {
+        let went = step(t, fd);
+        let after = went.tracker;
+        t = after;
+        y.sequences = y.sequences + one(went.start);
+        y.words = y.words + one(went.word);
+        y.differ = y.differ + one(went.differs);
+        if went.last {
+            return y;
+        }
+    }
+    y.differ = y.differ + 1;
+    y
+}
+
+fn show(name: &[u8], sequences: u64, words: u64, differ: u64) {
+    io::write_all(1, name);
+    io::write_all(1, b": ");
+    io::print_decimal(1, sequences);
+    io::write_all(1, b" sequences, ");
+    io::print_decimal(1, words);
+    io::write_all(1, b" words, ");
+    io::print_decimal(1, differ);
+    io::write_all(1, b" differ\n");
+}
+
+// A file by its name. One that can't be opened is an empty one.
+fn file(name: &[u8]) -> Tally {
+    let fd = os::open_read(name);
+    let y = replay(fd);
+    libc::close(fd);
+    show(name, y.sequences as u64, y.words as u64, y.differ as u64);
+    y
+}
+
+fn sum(a: u32, b: u32, c: u32, d: u32, e: u32, f: u32, g: u32) -> u64 {
+    a as u64 + b as u64 + c as u64 + d as u64 + e as u64 + f as u64 + g as u64
+}
+
+fn main() {
+    let a = file(b"ids");
+    let b = file(b"orbits");
+    let c = file(b"damaged");
+    let d = file(b"intervals");
+    let e = file(b"lanes");
+    let f = file(b"cdws");
+    let g = file(b"chance");
+    show(
+        b"all",
+        sum(
+            a.sequences,
+            b.sequences,
+            c.sequences,
+            d.sequences,
+            e.sequences,
+            f.sequences,
+            g.sequences,
+        ),
+        sum(
+            a.words,
+            b.words,
+            c.words,
+            d.words,
+            e.words,
+            f.words,
+            g.words,
+        ),
+        sum(
+            a.differ,
+            b.differ,
+            c.differ,
+            d.differ,
+            e.differ,
+            f.differ,
+            g.differ,
+        ),
+    );
+}

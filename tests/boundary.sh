@@ -1,0 +1,137 @@
+#!/bin/sh
+# boundary.sh: the C boundary as its users meet it: header, calls by example, examples, and the comparison with the given Rust.
+#
+#     tests/boundary.sh [--unproved | --lib ARCHIVE]
+#
+#   --unproved   the library without its proof, which is there in seconds (tools/native-lib.sh); for the gate, which proves it elsewhere
+#   --lib        an archive that is there already
+#   RUST_SRC, CC as for oracle/compare.py; CXX the C++ compiler, default c++
+#   BUILD_DIR    where the Rust is built and left; default: a temporary folder
+#
+# A line for each part: done, left out with the reason, or FAILED, with what the part said above it. What is left out was not tested.
+# Exit status: 1 if a part failed, 3 if all were left out. Everything is built in a temporary folder.
+set -eu
+cd "$(dirname "$0")/.."
+. tools/kit.sh
+how= archive=
+case ${1:-} in
+--unproved) how=--unproved ;;
+--lib) archive=${2:?--lib ARCHIVE} ;;
+'') ;;
+*) echo "usage: tests/boundary.sh [--unproved | --lib ARCHIVE]" >&2; exit 2 ;;
+esac
+work=$(mktemp -d "${TMPDIR:-/tmp}/khandzorul-boundary.XXXXXX")
+trap 'rm -rf "$work"' EXIT
+trap 'exit 1' HUP INT TERM
+cc=${CC:-cc} cxx=${CXX:-c++}
+strict='-O2 -Wall -Wextra -Wpedantic -Werror'
+done=0 out=0 failed=0
+
+has() { command -v "$1" >/dev/null 2>&1; }
+left_out() { out=$((out + 1)); echo "boundary: left out: $1 (${2%)})"; }
+part() { # WHAT COMMAND..: runs a part; what it says is shown where it fails, else its last line
+    what=$1
+    shift
+    set +e
+    (set -e; "$@") >"$work/said" 2>&1 # no condition: in one, set -e would do nothing
+    status=$?
+    set -e
+    last=$(tail -n 1 "$work/said")
+    if [ "$status" -ne 0 ]; then
+        failed=$((failed + 1))
+        cat "$work/said"
+        echo "boundary: FAILED: $what"
+    else
+        case $last in
+        *': left out ('*) left_out "$what" "${last#*: left out (}" ;;
+        *) done=$((done + 1)); echo "boundary: done: $what${last:+: $last}" ;;
+        esac
+    fi
+}
+
+header_c() {
+    echo '#include "khandzorul.h"' >"$work/header.c"
+    for std in c99 c11; do $cc -std=$std $strict -I include -c "$work/header.c" -o "$work/header.o"; done
+}
+header_cxx() {
+    # the struct's layout and the names are C's
+    printf '%s\n' '#include "khandzorul.h"' 'static_assert(sizeof(khz_word_answer) == 64 && sizeof(khz_payload_answer) == 24, "");' \
+        'int main() { return static_cast<int>(khz_reset(nullptr, 0)) == KHZ_NO_TRACKER ? 0 : 1; }' >"$work/header.cc"
+    $cxx -std=c++11 $strict -I include "$work/header.cc" "$archive" -o "$work/header"
+    "$work/header"
+}
+by_example() {
+    $cc -std=c11 $strict -I include tests/boundary.c "$archive" -o "$work/boundary"
+    "$work/boundary"
+}
+run_examples() { # PROGRAM: what it prints of each example
+    for f in examples/*.hex; do
+        sh tools/hex.sh <"$f" >"$work/file"
+        "$1" "$work/file" >"$work/printed"
+        diff "$work/printed" "${f%.hex}.out"
+    done
+    # a refused file
+    echo no bench file >"$work/file"
+    ended=0
+    "$1" "$work/file" >"$work/printed" || ended=$?
+    [ "$ended" -eq 1 ] && [ "$(cat "$work/printed")" = 'refused 6' ]
+}
+example_c() {
+    $cc -std=c99 $strict -I include examples/box.c "$archive" -o "$work/box_c"
+    run_examples "$work/box_c"
+}
+example_rust() {
+    rustc -O --edition 2021 -D warnings examples/box.rs -L "$work" -l static=khandzorul -o "$work/box_rust"
+    run_examples "$work/box_rust"
+}
+# On a machine that is no x86-64: the archive that is shipped, in x86-64 programs, through the kit's emulator. There are no C headers for
+# x86-64 here, so the C text goes through this machine's preprocessor first; both have the same types.
+x86() { # OUT FILE.c WORDS..
+    $cc -E -P -I include "$2" >"$work/x86.i"
+    "$tools/bin/clang" --target=x86_64-unknown-linux-gnu -O2 -fPIC -w -x cpp-output -c "$work/x86.i" -o "$work/x86.o"
+    "$kit/on/$(uname -m)/bin/rattle-link" --target x86_64-unknown-linux-gnu --toolchain "$tools" -o "$1" "$work/x86.o" target/staticlib/libkhandzorul.a 2>/dev/null
+}
+shipped() {
+    x86 "$work/x86" tests/boundary.c
+    kit_start "$work/x86"
+}
+shipped_driver() {
+    x86 "$work/x86" tests/oracle/khz_driver.c
+    kit_start "$work/x86" -c <"$work/oracle/calls.txt" >"$work/x86.txt"
+    cmp "$work/x86.txt" "$work/oracle/ours.txt"
+}
+
+if ! has "$cc"; then
+    left_out 'all parts' "no C compiler: $cc"
+    exit 3
+fi
+if [ -n "$archive" ]; then
+    cp "$archive" "$work/libkhandzorul.a"
+    archive=$work/libkhandzorul.a
+else
+    archive=$work/libkhandzorul.a
+    part 'the library' sh tools/native-lib.sh $how khandzorul "$archive"
+    [ "$failed" -eq 0 ] || exit 1
+fi
+part 'the header in C' header_c
+if has "$cxx"; then part 'the header in C++' header_cxx; else left_out 'the header in C++' "no C++ compiler: $cxx"; fi
+part 'calls by example' by_example
+part 'examples/box.c' example_c
+if has rustc; then part 'examples/box.rs' example_rust; else left_out 'examples/box.rs' 'no rustc'; fi
+if has python3; then
+    part 'the library beside the given Rust' python3 tests/oracle/compare.py --lib "$archive" --keep "$work/oracle" --build "${BUILD_DIR:-$work/rust}"
+    part 'the recorded answers of vectors' python3 tests/oracle/record.py --check --build "${BUILD_DIR:-$work/rust}"
+else
+    left_out 'the library beside the given Rust' 'no python3'
+fi
+if [ "$(uname -m)" = x86_64 ] && [ -z "$how" ]; then
+    : # the archive above is the shipped one
+elif [ -n "$how" ] || [ ! -f target/staticlib/libkhandzorul.a ]; then
+    left_out 'the archive that is shipped' 'nothing is proved in this run'
+else
+    kit_find
+    part 'the archive that is shipped, emulated' shipped
+    [ ! -f "$work/oracle/ours.txt" ] || part 'the same beside the calls above' shipped_driver
+fi
+echo "boundary: $done parts done, $out left out, $failed failed"
+[ "$failed" -eq 0 ]

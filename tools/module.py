@@ -1,0 +1,142 @@
+#!/usr/bin/env python3
+"""module.py: an LLVM module that the kit made for x86-64, as text, made fit for another machine. Used by native-lib.sh.
+
+    module.py MACHINE [CRATE FILE.rt] < KIT.ll > OURS.ll
+
+The kit's code is the same on every machine; what names x86-64 is the triple, the processor, and how a struct of more than 16 bytes is
+returned. With CRATE and the crate's root file it also adds the C entry points of the functions marked `#[no_mangle] pub extern "C" fn`,
+as the kit writes them: a slice comes as pointer and length and is handed on as a pair, all else as it is.
+"""
+import re
+import sys
+
+# a function of the module: what stands before its name, its name, its parameters, its attributes, its body
+FUNCTION = re.compile(r'^define ([^\n]*?)@("[^"]*"|[\w.]+)\(([^\n]*)\) (#\d+) \{\n(.*?)^\}\n', re.M | re.S)
+
+
+def fail(what):
+    sys.exit('module.py: ' + what)
+
+
+def split(text):
+    """The parts of `a, b, c`, brackets kept whole."""
+    parts, depth, part = [], 0, ''
+    for ch in text:
+        depth += (ch in '([<') - (ch in ')]>')
+        if ch == ',' and depth == 0:
+            parts.append(part.strip())
+            part = ''
+        else:
+            part += ch
+    return parts + [part.strip()] if part.strip() else parts
+
+
+def functions(text):
+    """The functions of the module: name, its line, its body."""
+    for m in FUNCTION.finditer(text):
+        yield m.group(2).strip('"'), m
+
+
+def answer_size(body):
+    """How many bytes a function writes through its first argument, the place of its answer."""
+    sizes = set(re.findall(r'call void @llvm\.memmove[\w.]*\(ptr %a0, ptr %\w+, i64 (\d+), ', body))
+    return int(sizes.pop()) if len(sizes) == 1 else None
+
+
+def exported(source):
+    """The exported functions of a crate's root file: name, and for each parameter whether it is a slice."""
+    source = re.sub(r'//[^\n]*', '', source)
+    for m in re.finditer(r'#\[no_mangle\]\s*pub\s+extern\s+"C"\s+fn\s+(\w+)\s*\(([^)]*)\)', source):
+        kinds = [p.split(':', 1)[1].strip() for p in split(m.group(2))]
+        for k in kinds:
+            if k.startswith('&') and not re.fullmatch(r'&(mut\s+)?\[\w+\]', k):
+                fail('%s: a parameter of type %s is not provided for' % (m.group(1), k))
+        yield m.group(1), [k.startswith('&') for k in kinds]
+
+
+def entry(name, slices, m):
+    """The C entry point of one function."""
+    large = m.group(1).split()[-1] == 'void' and len(split(m.group(3))) == len(slices) + 1
+    inner = [p.split()[0] for p in split(m.group(3))]
+    result = [w for w in m.group(1).split() if w not in ('internal', 'noundef')]
+    if len(inner) != len(slices) + large:
+        fail('%s: its parameters are not those of its source' % name)
+    outer, body, handed, n = [], [], [], 0
+    if large:
+        outer.append('ptr noundef %a0')
+        handed.append('ptr %a0')
+    for slice, kind in zip(slices, inner[large:]):
+        at = len(outer)
+        if slice:
+            outer += ['ptr noundef %%a%d' % at, 'i64 noundef %%a%d' % (at + 1)]
+            body += ['%%p%d = alloca [16 x i8], align 8' % n, 'store ptr %%a%d, ptr %%p%d, align 8' % (at, n),
+                     '%%l%d = getelementptr i8, ptr %%p%d, i64 8' % (n, n), 'store i64 %%a%d, ptr %%l%d, align 8' % (at + 1, n)]
+            handed.append('ptr %%p%d' % n)
+            n += 1
+        else:
+            outer.append('%s noundef %%a%d' % (kind, at))
+            handed.append('%s %%a%d' % (kind, at))
+    call = 'call %s @%s(%s)' % (result[-1], m.group(2), ', '.join(handed))
+    if large:
+        body += [call, 'ret ptr %a0']
+        result = ['ptr']
+    elif result == ['void']:
+        body += [call, 'ret void']
+    else:
+        body += ['%r = ' + call, 'ret %s %%r' % result[-1]]
+    head = 'define %s%s @%s(%s) %s {' % ('' if result == ['void'] else 'noundef ', ' '.join(result), name, ', '.join(outer), m.group(4))
+    return '\n%s\nstart:\n%s}\n' % (head, ''.join('  %s\n' % line for line in body))
+
+
+def with_entries(text, crate, source):
+    """The module, with the crate's C entry points and without the program that it was lowered for."""
+    text = FUNCTION.sub(lambda m: '' if m.group(2) == 'main' else m.group(0), text)
+    known = dict(functions(text))
+    names = []
+    for name, slices in exported(source):
+        m = known.get('%s::%s' % (crate, name))
+        if m is None:
+            fail('%s::%s is not in the module' % (crate, name))
+        text += entry(name, slices, m)
+        names.append(name)
+    if not names:
+        fail('%s exports no function' % crate)
+    return text
+
+
+def with_struct_results(text):
+    """A struct that goes back through memory: x86-64 hands its address in and out as if it were a plain argument; elsewhere the address
+    has a place of its own, which `sret` stands for."""
+    sizes = {name: answer_size(m.group(5)) for name, m in functions(text)}
+
+    def turned(m):
+        called = re.search(r'^  call void @"([^"]*)"\(ptr %a0', m.group(5), re.M)
+        if m.group(1).strip() != 'noundef ptr' or not m.group(3).startswith('ptr noundef %a0') or not called:
+            return m.group(0)
+        size = sizes.get(called.group(1))
+        if size is None:
+            fail('the size of the answer of %s is not found' % m.group(2))
+        parameters = m.group(3).replace('ptr noundef %a0', 'ptr noundef sret([%d x i8]) align 8 %%a0' % size, 1)
+        return m.group(0).replace('define noundef ptr', 'define void', 1).replace('(' + m.group(3) + ')', '(' + parameters + ')', 1) \
+            .replace('  ret ptr %a0\n', '  ret void\n')
+
+    return FUNCTION.sub(turned, text)
+
+
+def main():
+    if len(sys.argv) not in (2, 4):
+        fail('usage: module.py MACHINE [CRATE FILE.rt] < KIT.ll > OURS.ll')
+    machine, text = sys.argv[1], sys.stdin.read()
+    if len(sys.argv) == 4:
+        with open(sys.argv[3]) as f:
+            text = with_entries(text, sys.argv[2], f.read())
+    if machine != 'x86_64':
+        text = with_struct_results(text)
+        text = re.sub(r'^target datalayout.*\n', '', text, flags=re.M)
+        text = re.sub(r'^target triple = .*', 'target triple = "%s-unknown-linux-gnu"' % machine, text, flags=re.M)
+        text = re.sub(r' "(target-cpu|tune-cpu|target-features)"="[^"]*"', '', text)
+    sys.stdout.write(text)
+
+
+if __name__ == '__main__':
+    main()
