@@ -36,7 +36,7 @@ preceded-twice k j xs ys r =
 -- A word that gives no record is taken, whatever room there is.
 module _ (t : Tracker) (bytes : List ℕ) (ten : length bytes ≡ 10) (have : t .accepted ≡ true) (low : t .count < maxWords)
     (quiet : silent (rowsOf t (takenAs t (wordOf bytes)) (wordOf bytes)) ≡ true) where
-  silent-call : (places : ℕ) → wordCall t bytes places
+  pub silent-call : (places : ℕ) → wordCall t bytes places
       ≡ taken (nextOf t (takenAs t (wordOf bytes)) (wordOf bytes)) (takenAs t (wordOf bytes) .word) (takenAs t (wordOf bytes) .guessed) []
       (frameTold (t .settings .frames) (takenAs t (wordOf bytes) .word) (wordOf bytes) (positionNow t) (t .frame))
       (lanesTold (takenAs t (wordOf bytes) .word) (wordOf bytes))

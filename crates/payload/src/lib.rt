@@ -9,7 +9,7 @@ ghost use Rattle.cdp_running.specs.Word.{WordPost};
 ghost use Rattle.payload.specs.Payload.{PayloadPost, answerOf, stop};
 
 mod moved;
-mod quiet;
+pub mod quiet;
 mod silent;
 
 use cdp_running::REFUSED_NO_PACKET;

@@ -13,14 +13,14 @@ use words::Word;
 const ALL_LANES: u32 = 0xFFF_FFFF;
 
 // The lanes whose data words give no record: with no running checks all.
-fn checked_lanes(running: bool, lanes: u32) -> u32
+pub fn checked_lanes(running: bool, lanes: u32) -> u32
     ensures { λ r. ⌜ r ≡ checkedLanes running lanes ⌝ }
 {
     if running { lanes } else { ALL_LANES }
 }
 
 // Whether an id is a data id of one of these lanes. Inner ids are 32 + lane; of an outer id 64 + o, each eighth one has no lane, so the lane is o - o / 8.
-fn quiet_id(lanes: u32, id: u8) -> bool
+pub fn quiet_id(lanes: u32, id: u8) -> bool
     ensures { λ r. ⌜ r ≡ quietId lanes id ⌝ }
 {
     let inner = std::num::wrapping_sub_u8(id, 32);

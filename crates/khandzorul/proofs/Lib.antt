@@ -1,0 +1,5 @@
+pub mod Exports
+pub mod Quiet
+pub mod Kept
+pub mod Laws
+pub mod Unique

@@ -1,0 +1,32 @@
+-- Uniqueness: what each exported function answers and leaves in the arrays is determined, of refused calls too.
+-- Assumes nothing.
+use Prim.Native.Nat.{ℕ}
+use mathlib.Core.Path.{_≡_}
+use mathlib.Core.List.{List}
+use Rattle.words.proofs.Unique.{unique}
+use Rattle.validators.specs.declared.Settings.{Settings}
+use Rattle.validators.specs.declared.Packet.{Packet}
+use Rattle.bench_file.specs.File.{checkOf}
+use Rattle.khandzorul.specs.declared.WordNumbers.{WordNumbers}
+use Rattle.khandzorul.specs.declared.PayloadNumbers.{PayloadNumbers}
+use Rattle.khandzorul.specs.Calls.{StartOn, PacketOn, ResetOn, WordOn, PayloadOn}
+
+pub start-unique : {a after after′ : List ℕ} {s : Settings} {first second : ℕ} → StartOn a s first after → StartOn a s second after′ → (first ≡ second) × (after ≡ after′)
+start-unique u v = (unique (u .answer) (v .answer), unique (u .tracker) (v .tracker))
+
+pub packet-unique : {a after after′ : List ℕ} {p : Packet} {first second : ℕ} → PacketOn a p first after → PacketOn a p second after′ → (first ≡ second) × (after ≡ after′)
+packet-unique u v = (unique (u .answer) (v .answer), unique (u .tracker) (v .tracker))
+
+pub reset-unique : {a after after′ : List ℕ} {first second : ℕ} → ResetOn a first after → ResetOn a second after′ → (first ≡ second) × (after ≡ after′)
+reset-unique u v = (unique (u .answer) (v .answer), unique (u .tracker) (v .tracker))
+
+pub word-unique : {a bytes buffer after after′ end end′ : List ℕ} {first second : WordNumbers} → WordOn a bytes buffer first after end → WordOn a bytes buffer second after′ end′
+    → (first ≡ second) × ((after ≡ after′) × (end ≡ end′))
+word-unique u v = (unique (u .answer) (v .answer), (unique (u .tracker) (v .tracker), unique (u .buffer-is) (v .buffer-is)))
+
+pub payload-unique : {a bytes buffer after after′ end end′ : List ℕ} {first second : PayloadNumbers} → PayloadOn a bytes buffer first after end
+    → PayloadOn a bytes buffer second after′ end′ → (first ≡ second) × ((after ≡ after′) × (end ≡ end′))
+payload-unique u v = (unique (u .answer) (v .answer), (unique (u .tracker) (v .tracker), unique (u .buffer-is) (v .buffer-is)))
+
+pub check-file-unique : (file : List ℕ) {first second : ℕ} → first ≡ checkOf file → second ≡ checkOf file → first ≡ second
+check-file-unique file = unique

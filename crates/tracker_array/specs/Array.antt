@@ -1,0 +1,87 @@
+-- A tracker as 32 numbers, for callers who own its memory: which number stands where. The rest of the places are 0.
+-- Assumes nothing.
+use Prim.Native.Nat.{ℕ}
+use mathlib.Core.Bool.{Bool, true, false, cond}
+use mathlib.Core.List.{List, [], _∷_, _++_}
+use lib.Dec.{eqb}
+use lib.ListN.{length}
+use Rattle.payload_fsm.specs.declared.State.{State}
+use Rattle.payload_fsm.specs.declared.State.the-variants as S
+use Rattle.validators.specs.declared.Settings.{Settings}
+use Rattle.validators.specs.declared.Packet.{Packet}
+use Rattle.validators.specs.declared.StoredTdh.{StoredTdh}
+use Rattle.validators.specs.declared.InternalTdh.{InternalTdh}
+use Rattle.validators.specs.declared.StoredCdw.{StoredCdw}
+use Rattle.cdp_running.specs.declared.StoredIhw.{StoredIhw}
+use Rattle.cdp_running.specs.declared.Frame.{Frame}
+use Rattle.cdp_running.specs.declared.Tracker.{Tracker}
+
+abbrev pub size : ℕ
+size = 32
+
+-- The first number of every tracker, so that zeros are none: the letters KHZ and a version.
+abbrev pub mark : ℕ
+mark = 0x4B485A01
+
+abbrev pub flag : Bool → ℕ
+flag false = 0
+flag true = 1
+
+abbrev pub stateNumber : State → ℕ
+stateNumber S.Ihw = 0
+stateNumber S.Tdh = 1
+stateNumber S.Data = 2
+stateNumber S.CData = 3
+stateNumber S.Three = 4
+stateNumber S.CIhw = 5
+stateNumber S.CTdh = 6
+
+-- 1 to 4
+abbrev pub settingsNumbers : Settings → List ℕ
+settingsNumbers s = flag (s .running) ∷ flag (s .frames) ∷ flag (s .periodic) ∷ s .period ∷ []
+
+-- 6 to 12
+abbrev pub packetNumbers : Packet → List ℕ
+packetNumbers p = p .position ∷ p .orbit ∷ p .trigger ∷ p .bc ∷ p .page ∷ p .stop ∷ p .format ∷ []
+
+-- 16, 17
+abbrev pub ihwNumbers : StoredIhw → List ℕ
+ihwNumbers i = flag (i .stored) ∷ i .lanes ∷ []
+
+-- 18 to 21
+abbrev pub tdhNumbers : StoredTdh → List ℕ
+tdhNumbers h = flag (h .stored) ∷ h .kind ∷ h .bc ∷ h .orbit ∷ []
+
+-- 22, 23
+abbrev pub internalNumbers : InternalTdh → List ℕ
+internalNumbers i = flag (i .stored) ∷ i .bc ∷ []
+
+-- 24, 25
+abbrev pub cdwNumbers : StoredCdw → List ℕ
+cdwNumbers c = flag (c .stored) ∷ c .user ∷ []
+
+-- 26, 27
+abbrev pub frameNumbers : Frame → List ℕ
+frameNumbers f = flag (f .live) ∷ f .start ∷ []
+
+-- The mark at 0, whether a packet was accepted at 5, state, count and "data seen" at 13 to 15.
+abbrev pub firstNumbers : Settings → Bool → Packet → State → ℕ → Bool → List ℕ
+firstNumbers settings accepted packet state count seen =
+    (mark ∷ [])
+    ++ (settingsNumbers settings
+    ++ ((flag accepted ∷ []) ++ (packetNumbers packet ++ (stateNumber state ∷ count ∷ flag seen ∷ []))))
+
+-- What is stored, from 16 on, and nothing at 28 to 31.
+abbrev pub storedNumbers : StoredIhw → StoredTdh → InternalTdh → StoredCdw → Frame → List ℕ
+storedNumbers ihw tdh internal cdw frame =
+    ihwNumbers ihw
+    ++ (tdhNumbers tdh ++ (internalNumbers internal ++ (cdwNumbers cdw ++ (frameNumbers frame ++ (0 ∷ 0 ∷ 0 ∷ 0 ∷ [])))))
+
+unfoldable pub encodeOf : Tracker → List ℕ
+encodeOf t =
+    firstNumbers (t .settings) (t .accepted) (t .packet) (t .fsm .state) (t .count) (t .seen)
+    ++ storedNumbers (t .ihw) (t .tdh) (t .internal) (t .cdw) (t .frame)
+
+-- What an array holds after a tracker was written to it; one of another length stays as it was.
+abbrev pub writtenTo : List ℕ → Tracker → List ℕ
+writtenTo a t = cond (eqb (length a) size) (encodeOf t) a

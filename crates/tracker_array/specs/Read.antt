@@ -1,0 +1,173 @@
+-- Which numbers are a tracker, and which one: those that the start and the calls can have written, and no others.
+-- Assumes nothing.
+use Prim.Native.Nat.{ℕ, _<_, _^_}
+use mathlib.Core.Bool.{Bool, true, false, cond, not, _&&_, _||_}
+use mathlib.Core.List.{List}
+use lib.Dec.{leb, ltb, eqb}
+use lib.ListN.{length, getD}
+use Rattle.payload_fsm.specs.declared.State.{State}
+use Rattle.payload_fsm.specs.declared.State.the-variants as S
+use Rattle.validators.specs.declared.Settings.{Settings}
+use Rattle.validators.specs.declared.Packet.{Packet}
+use Rattle.validators.specs.declared.StoredTdh.{StoredTdh}
+use Rattle.validators.specs.declared.InternalTdh.{InternalTdh}
+use Rattle.validators.specs.declared.StoredCdw.{StoredCdw}
+use Rattle.cdp_running.specs.declared.StoredIhw.{StoredIhw}
+use Rattle.cdp_running.specs.declared.Frame.{Frame}
+use Rattle.cdp_running.specs.declared.Tracker.{Tracker}
+use Rattle.cdp_running.specs.Tracker.{inRange, maxWords, mostPosition, afterIhw, afterTdh}
+use Rattle.tracker_array.specs.declared.Decoded.{Decoded}
+use Rattle.tracker_array.specs.declared.Decoded.the-variants.{Is, Not}
+use Rattle.tracker_array.specs.Array.{size, mark}
+
+abbrev pub place : List ℕ → ℕ → ℕ
+place a i = getD a i 0
+
+abbrev pub isOn : ℕ → Bool
+isOn n = eqb n 1
+
+abbrev pub isFlag : ℕ → Bool
+isFlag n = leb n 1
+
+abbrev pub stateOf : ℕ → State
+stateOf n =
+    cond (eqb n 0) S.Ihw
+    (cond (eqb n 1) S.Tdh
+    (cond (eqb n 2) S.Data (cond (eqb n 3) S.CData (cond (eqb n 4) S.Three (cond (eqb n 5) S.CIhw S.CTdh)))))
+
+-- What the numbers say, each part from its own places.
+abbrev pub settingsIn : List ℕ → Settings
+settingsIn a = record { running = isOn (place a 1); frames = isOn (place a 2); periodic = isOn (place a 3); period = place a 4 }
+
+abbrev pub packetIn : List ℕ → Packet
+packetIn a =
+    record {
+      position = place a 6;
+      orbit = place a 7;
+      trigger = place a 8;
+      bc = place a 9;
+      page = place a 10;
+      stop = place a 11;
+      format = place a 12;
+    }
+
+abbrev pub ihwIn : List ℕ → StoredIhw
+ihwIn a = record { stored = isOn (place a 16); lanes = place a 17 }
+
+abbrev pub tdhIn : List ℕ → StoredTdh
+tdhIn a = record { stored = isOn (place a 18); kind = place a 19; bc = place a 20; orbit = place a 21 }
+
+abbrev pub internalIn : List ℕ → InternalTdh
+internalIn a = record { stored = isOn (place a 22); bc = place a 23 }
+
+abbrev pub cdwIn : List ℕ → StoredCdw
+cdwIn a = record { stored = isOn (place a 24); user = place a 25 }
+
+abbrev pub frameIn : List ℕ → Frame
+frameIn a = record { live = isOn (place a 26); start = place a 27 }
+
+abbrev pub trackerIn : List ℕ → Tracker
+trackerIn a =
+    record {
+      settings = settingsIn a;
+      accepted = isOn (place a 5);
+      packet = packetIn a;
+      fsm = record { state = stateOf (place a 13) };
+      count = place a 14;
+      seen = isOn (place a 15);
+      ihw = ihwIn a;
+      tdh = tdhIn a;
+      internal = internalIn a;
+      cdw = cdwIn a;
+      frame = frameIn a;
+    }
+
+-- The form: the mark, flags that are 0 or 1, one of the seven states, and 0 where nothing stands.
+abbrev pub flagsFit : List ℕ → Bool
+flagsFit a =
+    isFlag (place a 1)
+    && (isFlag (place a 2)
+    && (isFlag (place a 3)
+    && (isFlag (place a 5)
+    && (isFlag (place a 15)
+    && (isFlag (place a 16)
+    && (isFlag (place a 18) && (isFlag (place a 22) && (isFlag (place a 24) && isFlag (place a 26)))))))))
+
+abbrev pub unused : List ℕ → Bool
+unused a = eqb (place a 28) 0 && (eqb (place a 29) 0 && (eqb (place a 30) 0 && eqb (place a 31) 0))
+
+abbrev pub inForm : List ℕ → Bool
+inForm a = eqb (place a 0) mark && (flagsFit a && (leb (place a 13) 6 && unused a))
+
+-- What fits the widths of its types and the invariant does not speak of.
+pub record Sized (t : Tracker) : Type 0 where
+  pub period : t .settings .period < 2 ^ 16
+  pub orbit : t .tdh .orbit < 2 ^ 32
+
+-- These, and the invariant of cdp_running, `Good`, as tests: proofs/Invariant.antt has that they are the same.
+abbrev pub settingsGood : Settings → Bool
+settingsGood s = ltb (s .period) (2 ^ 16) && (s .periodic || eqb (s .period) 0)
+
+abbrev pub ihwGood : StoredIhw → Bool
+ihwGood i = ltb (i .lanes) (2 ^ 28) && (i .stored || eqb (i .lanes) 0)
+
+abbrev pub tdhGood : StoredTdh → Bool
+tdhGood h =
+    ltb (h .kind) (2 ^ 12)
+    && (ltb (h .bc) (2 ^ 12)
+    && (ltb (h .orbit) (2 ^ 32) && (h .stored || (eqb (h .kind) 0 && (eqb (h .bc) 0 && eqb (h .orbit) 0)))))
+
+abbrev pub internalGood : InternalTdh → Bool
+internalGood i = ltb (i .bc) (2 ^ 12) && (i .stored || eqb (i .bc) 0)
+
+abbrev pub cdwGood : StoredCdw → Bool
+cdwGood c = ltb (c .user) (2 ^ 48) && (c .stored || eqb (c .user) 0)
+
+abbrev pub frameGood : Bool → Frame → Bool
+frameGood frames f = leb (f .start) mostPosition && ((f .live || eqb (f .start) 0) && (frames || not (f .live)))
+
+-- An IHW is stored outside the start state, and a TDH wherever a previous one is read.
+abbrev pub present : State → StoredIhw → StoredTdh → Bool
+present s i h = (not (afterIhw s) || i .stored) && (not (afterTdh s) || h .stored)
+
+-- No packet, and the rest as the start gave it, but for the settings.
+abbrev pub packetBlank : Packet → Bool
+packetBlank p =
+    eqb (p .position) 0
+    && (eqb (p .orbit) 0
+    && (eqb (p .trigger) 0 && (eqb (p .bc) 0 && (eqb (p .page) 0 && (eqb (p .stop) 0 && eqb (p .format) 0)))))
+
+abbrev pub inStart : State → Bool
+inStart S.Ihw = true
+inStart S.Tdh = false
+inStart S.Data = false
+inStart S.CData = false
+inStart S.Three = false
+inStart S.CIhw = false
+inStart S.CTdh = false
+
+abbrev pub blank : Tracker → Bool
+blank t =
+    inStart (t .fsm .state)
+    && (eqb (t .count) 0
+    && (not (t .seen)
+    && (not (t .ihw .stored)
+    && (not (t .tdh .stored) && (not (t .internal .stored) && (not (t .cdw .stored) && not (t .frame .live)))))))
+
+abbrev pub isGood : Tracker → Bool
+isGood t =
+    settingsGood (t .settings)
+    && (inRange (t .packet)
+    && (leb (t .count) maxWords
+    && (ihwGood (t .ihw)
+    && (tdhGood (t .tdh)
+    && (internalGood (t .internal)
+    && (cdwGood (t .cdw)
+    && (frameGood (t .settings .frames) (t .frame)
+    && (present (t .fsm .state) (t .ihw) (t .tdh) && (t .accepted || (packetBlank (t .packet) && blank t))))))))))
+
+unfoldable pub isTracker : List ℕ → Bool
+isTracker a = eqb (length a) size && (inForm a && isGood (trackerIn a))
+
+unfoldable pub decodeOf : List ℕ → Decoded
+decodeOf a = cond (isTracker a) (Is (trackerIn a)) Not

@@ -1,0 +1,151 @@
+// A tracker written as numbers, each part to its own places.
+ghost use mathlib.Core.Path.{_≡_};
+ghost use Prim.Native.Nat.{_+_, _≤_};
+ghost use mathlib.Core.List.{[], _∷_};
+ghost use lib.ListN.{length};
+ghost use lib.Seq.{sets};
+ghost use Rattle.tracker_array.specs.Array.{size, mark, flag, stateNumber, settingsNumbers, packetNumbers, tdhNumbers, firstNumbers, storedNumbers};
+use crate::MARK;
+use crate::place;
+use cdp_running::Frame;
+use cdp_running::StoredIhw;
+use payload_fsm::State;
+use validators::InternalTdh;
+use validators::Packet;
+use validators::Settings;
+use validators::StoredCdw;
+use validators::StoredTdh;
+
+fn flag(b: bool) -> u64
+    ensures { λ r. ⌜ r ≡ flag b ⌝ }
+{
+    if b { 1 } else { 0 }
+}
+
+fn state_number(state: State) -> u64
+    ensures { λ r. ⌜ r ≡ stateNumber state ⌝ }
+{
+    match state {
+        State::Ihw => 0,
+        State::Tdh => 1,
+        State::Data => 2,
+        State::CData => 3,
+        State::Three => 4,
+        State::CIhw => 5,
+        State::CTdh => 6,
+    }
+}
+
+fn settings(s: Settings, a: &mut [u64])
+    requires { ⌜ length (now a) ≡ size ⌝ }
+    ensures { λ _. ⌜ now (a .exit) ≡ sets (now (a .entry)) 1 (settingsNumbers s) ⌝ }
+{
+    a[place::RUNNING] = flag(s.running);
+    a[place::FRAMES] = flag(s.frames);
+    a[place::PERIODIC] = flag(s.periodic);
+    a[place::PERIOD] = s.period as u64;
+}
+
+fn packet(p: Packet, a: &mut [u64])
+    requires { ⌜ length (now a) ≡ size ⌝ }
+    ensures { λ _. ⌜ now (a .exit) ≡ sets (now (a .entry)) 6 (packetNumbers p) ⌝ }
+{
+    a[place::POSITION] = p.position;
+    a[place::ORBIT] = p.orbit as u64;
+    a[place::TRIGGER] = p.trigger as u64;
+    a[place::BC] = p.bc as u64;
+    a[place::PAGE] = p.page as u64;
+    a[place::STOP] = p.stop as u64;
+    a[place::FORMAT] = p.format as u64;
+}
+
+// Whether something is there, and its number beside it.
+fn held(there: bool, n: u64, at: usize, a: &mut [u64])
+    requires { ⌜ length (now a) ≡ size ⌝ }
+    requires { ⌜ at + 2 ≤ size ⌝ }
+    ensures { λ _. ⌜ now (a .exit) ≡ sets (now (a .entry)) at (flag there ∷ n ∷ []) ⌝ }
+{
+    a[at] = flag(there);
+    a[at + 1] = n;
+}
+
+fn tdh(h: StoredTdh, a: &mut [u64])
+    requires { ⌜ length (now a) ≡ size ⌝ }
+    ensures { λ _. ⌜ now (a .exit) ≡ sets (now (a .entry)) 18 (tdhNumbers h) ⌝ }
+{
+    a[place::TDH] = flag(h.stored);
+    a[place::TDH_KIND] = h.kind as u64;
+    a[place::TDH_BC] = h.bc as u64;
+    a[place::TDH_ORBIT] = h.orbit as u64;
+}
+
+fn mark(a: &mut [u64])
+    requires { ⌜ length (now a) ≡ size ⌝ }
+    ensures { λ _. ⌜ now (a .exit) ≡ sets (now (a .entry)) 0 (mark ∷ []) ⌝ }
+{
+    a[0] = MARK;
+}
+
+fn accepted(b: bool, a: &mut [u64])
+    requires { ⌜ length (now a) ≡ size ⌝ }
+    ensures { λ _. ⌜ now (a .exit) ≡ sets (now (a .entry)) 5 (flag b ∷ []) ⌝ }
+{
+    a[place::ACCEPTED] = flag(b);
+}
+
+fn reached(state: State, count: u16, seen: bool, a: &mut [u64])
+    requires { ⌜ length (now a) ≡ size ⌝ }
+    ensures { λ _. ⌜ now (a .exit) ≡ sets (now (a .entry)) 13 (stateNumber state ∷ count ∷ flag seen ∷ []) ⌝ }
+{
+    a[place::STATE] = state_number(state);
+    a[place::COUNT] = count as u64;
+    a[place::SEEN] = flag(seen);
+}
+
+fn rest(a: &mut [u64])
+    requires { ⌜ length (now a) ≡ size ⌝ }
+    ensures { λ _. ⌜ now (a .exit) ≡ sets (now (a .entry)) 28 (0 ∷ 0 ∷ 0 ∷ 0 ∷ []) ⌝ }
+{
+    a[28] = 0;
+    a[29] = 0;
+    a[30] = 0;
+    a[31] = 0;
+}
+
+pub(crate) fn first(
+    s: Settings,
+    b: bool,
+    p: Packet,
+    state: State,
+    count: u16,
+    seen: bool,
+    a: &mut [u64],
+)
+    requires { ⌜ length (now a) ≡ size ⌝ }
+    ensures { λ _. ⌜ now (a .exit) ≡ sets (now (a .entry)) 0 (firstNumbers s b p state count seen) ⌝ }
+{
+    mark(a);
+    settings(s, a);
+    accepted(b, a);
+    packet(p, a);
+    reached(state, count, seen, a);
+}
+
+pub(crate) fn stored(
+    ihw: StoredIhw,
+    h: StoredTdh,
+    internal: InternalTdh,
+    cdw: StoredCdw,
+    frame: Frame,
+    a: &mut [u64],
+)
+    requires { ⌜ length (now a) ≡ size ⌝ }
+    ensures { λ _. ⌜ now (a .exit) ≡ sets (now (a .entry)) 16 (storedNumbers ihw h internal cdw frame) ⌝ }
+{
+    held(ihw.stored, ihw.lanes as u64, place::IHW, a);
+    tdh(h, a);
+    held(internal.stored, internal.bc as u64, place::INTERNAL, a);
+    held(cdw.stored, cdw.user, place::CDW, a);
+    held(frame.live, frame.start, place::LIVE, a);
+    rest(a);
+}
