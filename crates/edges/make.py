@@ -1,0 +1,197 @@
+#!/usr/bin/env python3
+# make.py: writes the files data/c00, c01 .. and stdout, what the program edges is to print.
+# A case is a rule of document 01, the bytes of a file, and the lines that 01 gives for it, worked out by hand: no program of ours made them.
+# The lines of the last part, which no file can show, stand at the end.
+import os
+import re
+import struct
+
+HERE = os.path.dirname(os.path.abspath(__file__))
+
+
+# Words, from 01, "Words": the bits 71:0, and the id in byte 9.
+def word(ident, bits):
+    return bits.to_bytes(9, "little") + bytes([ident])
+
+
+def ihw(lanes=1, reserved=0):
+    return word(0xE0, lanes | reserved << 28)
+
+
+def tdh(bc, kind=0x10, internal=0, no_data=0, continuation=0, orbit=7, reserved=0):
+    return word(0xE8, kind | internal << 12 | no_data << 13 | continuation << 14 | reserved << 15 | bc << 16 | orbit << 32)
+
+
+def tdt(done=1):
+    return word(0xF0, done << 64)
+
+
+def cdw(user=5, index=0):
+    return word(0xF8, user | index << 48)
+
+
+def data(ident=0x20):
+    return word(ident, 0)
+
+
+# A packet of a file, with its words: 01, "Bench file". `count` is what its header says, where that is not the number of its words.
+def packet(words, position=0, orbit=7, trigger=0x10, bc=100, page=0, stop=0, fmt=2, count=None):
+    count = len(words) if count is None else count
+    return struct.pack("<QIIHHBBH", position, orbit, trigger, bc, page, stop, fmt, count), words
+
+
+def file(*packets, packet_offset=16, word_offset=None, words=None, packet_count=None):
+    body = b"".join(w for _, ws in packets for w in ws)
+    offset = 16 + 24 * len(packets) if word_offset is None else word_offset
+    words = len(body) // 10 if words is None else words
+    n = len(packets) if packet_count is None else packet_count
+    return struct.pack("<IIII", n, words, packet_offset, offset) + b"".join(p for p, _ in packets) + body
+
+
+# The whole case of 01, to the letter, and the same words in other packets.
+WHOLE_CASE = bytes.fromhex("""
+    01000000 05000000 10000000 28000000
+    0000000000000000 07000000 10000000 EC0D 0000 00 02 0500
+    010000000000000000E0  1010EC0D0700000000E8
+    00000000000000000021  000000000000000001F0
+    1030C6000700000000E8""")
+FIVE = [ihw(), tdh(3564, internal=1), data(0x21), tdt(), tdh(198, internal=1, no_data=1)]
+
+
+def whole(**packet_fields):
+    return file(packet(FIVE, **dict({"bc": 3564}, **packet_fields)))
+
+
+# n words that give no record in a packet with BC 100: an IHW, a TDH, data words of lane 0, a TDT with packet done.
+def clean(n):
+    return [ihw(), tdh(100)] + [data()] * (n - 3) + [tdt()]
+
+
+# The same, but the last word is a data word of lane 1, which is not active: 1072, and nothing else.
+def loud_at_the_end(n):
+    return [ihw(), tdh(100)] + [data()] * (n - 3) + [data(0x21)]
+
+
+def after_packet_done(*bcs, internal=0):
+    return [tdh(bc, internal=internal, no_data=1) for bc in bcs]
+
+
+FIVE_CLEAN = [packet(clean(n), position=100000 * i) for i, n in enumerate([998, 998, 997, 997, 997])]
+
+CASES = []
+
+
+def case(rule, content, *lines):
+    CASES.append((rule, content, "".join(line + "\n" for line in lines)))
+
+
+def printed(rule, content, *records):
+    case(rule, content, "pos code first second", *records, "records %d" % len(records))
+
+
+def refused(rule, content, n):
+    case(rule, content, "refused %d" % n)
+
+
+printed("the whole case", WHOLE_CASE, "84 1072 1 1", "104 440 3564 198", "104 1045 3564 198")
+printed("a file of 16 bytes with no packets prints two lines", file())
+
+# 6, in each of its forms.
+refused("6: under 16 bytes: none", b"", 6)
+refused("6: under 16 bytes: 15", file()[:15], 6)
+refused("6: over 60,000 bytes, 60,010, all else as it should be", file(*FIVE_CLEAN, packet(clean(998), position=500000)), 6)
+refused("6: over 60,000 bytes: 60,001", file(*FIVE_CLEAN, packet(clean(997), position=500000)) + b"\0", 6)
+printed("60,000 bytes are not over 60,000: all words are read, the last too, word 997 of the packet at 500000",
+        file(*FIVE_CLEAN, packet(loud_at_the_end(997), position=500000)), "510024 1072 1 1")
+refused("6: packet offset not 16", file(packet(FIVE), packet_offset=40), 6)
+refused("6: word offset not 16 + 24 times packets", file(packet(FIVE), word_offset=41), 6)
+refused("6: length one word less", whole()[:-10], 6)
+refused("6: length one byte more", whole() + b"\0", 6)
+refused("6: word offset is a plain number: 24 times 0x0AAAAAAB is 2^32 + 8",
+        struct.pack("<IIII", 0x0AAAAAAB, 0, 16, 24) + bytes(8), 6)
+refused("6: length is a plain number: 10 times 0x1999999A is 2^32 + 4", struct.pack("<IIII", 0, 0x1999999A, 16, 16) + bytes(4), 6)
+
+# 7, 5 and 3.
+refused("7: packets' word counts don't sum to the header's: one less", file(packet(FIVE, count=4)), 7)
+refused("7: one more", file(packet(FIVE, count=6)), 7)
+refused("7: a word and no packet", file(word_offset=16, words=1) + ihw(), 7)
+refused("5: position at most 2^62", whole(position=2**62 + 1), 5)
+printed("5: a position of 2^62 is in range", whole(position=2**62),
+        "4611686018427387988 1072 1 1", "4611686018427388008 440 3564 198", "4611686018427388008 1045 3564 198")
+refused("5: BC at most 4095", whole(bc=4096), 5)
+printed("5: a BC of 4095 is in range; 445: TDH 3564, packet 4095", whole(bc=4095),
+        "74 445 3564 4095", "84 1072 1 1", "104 440 3564 198", "104 1045 3564 198")
+refused("5: format 0 or 2, not 1", whole(fmt=1), 5)
+refused("5: format 0 or 2, not 3", whole(fmt=3), 5)
+printed("format 0: a word each 16 bytes", whole(fmt=0), "96 1072 1 1", "128 440 3564 198", "128 1045 3564 198")
+refused("3: in a file, a packet's count above 4,096", file(packet(clean(4097))), 3)
+printed("4,096th word accepted: it stands at 64 + 4095 times 10", file(packet(loud_at_the_end(4096))), "41014 1072 1 1")
+
+# "File: 6, 7, then per packet 5, 3."
+refused("6 before 7", file(packet(FIVE, count=4), word_offset=41), 6)
+refused("6 before 5", file(packet(FIVE, fmt=1), packet_offset=40), 6)
+refused("6 before 3", file(packet([], count=4097), packet_offset=40), 6)
+refused("7 before 5", file(packet(FIVE, fmt=1, count=4)), 7)
+refused("7 before 3", file(packet([], count=4097)), 7)
+refused("5 before 3 in a packet", file(packet(clean(4097), fmt=1)), 5)
+refused("packet by packet: 3 of the first before 5 of the second", file(packet(clean(4097)), packet(FIVE, fmt=1)), 3)
+refused("packet by packet: 5 of the first before 3 of the second", file(packet(FIVE, fmt=1), packet(clean(4097))), 5)
+refused("the last packet is looked at too", file(packet(FIVE), packet([]), packet([], bc=4096)), 5)
+
+# Packets and words in order.
+printed("packets with no words", file(packet([]), packet([], fmt=0)))
+printed("each packet before its words: those of 0, 2, 0 and 1 words; 30, 2 reserved",
+        file(packet([], position=1000, stop=9), packet([ihw(), tdh(100, no_data=1)], position=2000), packet([], position=3000, stop=9),
+             packet([ihw(reserved=1)], position=4000)),
+        "4064 30 2 0")
+printed("one word gives at most six: 40, 42, 444, 445, 44 and 45 of one TDH",
+        file(packet([ihw(), tdh(100, internal=1, no_data=1)]),
+             packet([ihw(), tdh(300, kind=0x11, internal=1, continuation=1, orbit=9, reserved=1)], position=1000, orbit=8, bc=200)),
+        "1074 40 2 0", "1074 42 1 0", "1074 444 9 8", "1074 445 300 200", "1074 44 17 16", "1074 45 200 198")
+
+# "At the edges" and "Easy to get wrong".
+printed("equal BCs give no 440, a larger previous BC does", file(packet([ihw()] + after_packet_done(100, 100, 99, 99))), "94 440 100 99")
+printed("a second CDW in a packet gets 70, the first does not", file(packet([ihw(), tdh(100), cdw(), cdw(), data(), tdt()])), "94 70 248 0")
+printed("a second CDW in the next packet gets no 70; 81: user fields differ and index is not 0",
+        file(packet([ihw(), tdh(100), cdw(user=5), tdt()]), packet([ihw(), tdh(100), cdw(user=6, index=3), tdt()], position=1000)),
+        "1084 81 3 0")
+printed("no frame is opened at 59: the next TDT finds none either",
+        file(packet([ihw(), tdh(100, continuation=1), tdt(), tdh(100, continuation=1), tdt()])), "74 42 1 0", "84 59 0 0", "104 59 0 0")
+printed("a TDH does not meet itself: the first gives no 45; 298 to 500 is 202",
+        file(packet([ihw()] + after_packet_done(100, 298, 500, internal=1))), "94 45 202 198")
+printed("3366 to 3564, and 3564 to 198, give 1045, no period", file(packet([ihw()] + after_packet_done(3366, 3564, 198, internal=1), bc=3366)),
+        "84 1045 3366 3564", "94 440 3564 198", "94 1045 3564 198")
+printed("periods: 3563 to 0 is 1; 5 to 5 is 0; 3465 to 99 is 198; 0 to 3563 is 3563",
+        file(packet([ihw()] + after_packet_done(3563, 0, 5, 5, 3465, 99, 0, 3563, internal=1), bc=3563)),
+        "84 440 3563 0", "84 45 1 198", "94 45 5 198", "104 45 0 198", "114 45 3460 198", "124 440 3465 99", "134 440 99 0",
+        "134 45 3465 198", "144 45 3563 198")
+printed("lane 78 is not lane 14: id 0x47 is no data id, its lane is never active, its input is 7",
+        file(packet([ihw(lanes=2**28 - 1), tdh(100), data(0x47), tdt()])), "84 991 71 0", "84 70 71 0", "84 1071 78 268435455", "84 1073 7 0")
+printed("992 after a TDH with no data too: an unknown id is a DDW0; stop is not 1, page is 0",
+        file(packet([ihw(), tdh(100, no_data=1), data(0x20)])), "84 992 32 0", "84 60 1 0", "84 1110 0 0", "84 1111 0 0")
+
+# What no file can show: 4,097 words in one packet; a word refused with 4 is not counted, so that it stands at 64 when it is given again; with a set
+# period of 3564 each of the found periods 0, 1 .. 3563 differs, and their sum is 3563 times 3564 / 2.
+CALLS = "words 4096 refused 3\nrefused 4 then 64 30 2 0\ndiffer 3564 sum 6349266\n"
+
+
+def main():
+    source = open(os.path.join(HERE, "src/main.rt")).read()
+    told = int(re.search(r"const FILES: u8 = (\d+);", source).group(1))
+    assert told == len(CASES), "src/main.rt opens %d files, and there are %d cases" % (told, len(CASES))
+    os.makedirs(os.path.join(HERE, "data"), exist_ok=True)
+    for name in os.listdir(os.path.join(HERE, "data")):
+        os.remove(os.path.join(HERE, "data", name))
+    out = ""
+    for i, (_, content, lines) in enumerate(CASES):
+        name = "c%02d" % i
+        with open(os.path.join(HERE, "data", name), "wb") as f:
+            f.write(content)
+        out += name + "\n" + lines
+    with open(os.path.join(HERE, "stdout"), "w") as f:
+        f.write(out + CALLS)
+
+
+assert whole() == WHOLE_CASE
+if __name__ == "__main__":
+    main()

@@ -1,0 +1,192 @@
+// The edges of document 01 that are no theorems: what benchcheck prints of the files c00, c01 .. of data/, and the calls that no file can make.
+// make.py makes the files and, from 01 by hand, what is to be printed; it says what each case is about.
+ghost use Rattle.cdp_running.specs.Tracker.{Good};
+use cdp_running::Told;
+use cdp_running::Tracker;
+use libc::STDOUT_FILENO;
+use report::Report;
+use validators::Packet;
+use validators::Settings;
+
+// How many files there are.
+const FILES: u8 = 46;
+
+fn text(bytes: &[u8]) {
+    io::write_all(STDOUT_FILENO, bytes);
+}
+
+fn number(n: u64) {
+    io::print_decimal(STDOUT_FILENO, n);
+}
+
+// The report of a file. No report here is longer than the buffer.
+fn show(file: &[u8]) {
+    let mut out = [0u8; 8192];
+    let report = Report::start(file);
+    let filled = report.fill(file, &mut out);
+    let n = filled.n;
+    text(&out[..n]);
+    let after = filled.report;
+    if !after.finished() {
+        text(b"unfinished\n");
+    }
+}
+
+// A file by its name.
+fn show_file(name: &[u8]) {
+    text(name);
+    text(b"\n");
+    let fd = os::open_read(name);
+    if fd < 0 {
+        text(b"missing\n");
+        return;
+    }
+    let mut file = [0u8; 60001];
+    let n = io::read_full(fd, &mut file);
+    libc::close(fd);
+    show(&file[..n]);
+}
+
+fn show_files() {
+    let mut name = [b'c', b'0', b'0'];
+    let mut i: u8 = 0;
+    while i < FILES {
+        name[1] = 48 + i / 10;
+        name[2] = 48 + i % 10;
+        show_file(&name);
+        i = i + 1;
+    }
+}
+
+// A tracker with running checks on, a period, and a packet at position 0 with BC 0 of format 2.
+fn packet_taken(period: u16) -> Tracker
+    ensures { λ r. ⌜ Good r ⌝ }
+{
+    let start = Tracker::start(Settings {
+        running: true,
+        frames: true,
+        periodic: true,
+        period: period,
+    });
+    let answer = start.packet(Packet {
+        position: 0,
+        orbit: 0,
+        trigger: 0,
+        bc: 0,
+        page: 0,
+        stop: 0,
+        format: 2,
+    });
+    answer.tracker
+}
+
+// The refusal of a word, or 0.
+fn refusal(told: Told) -> u64 {
+    match told {
+        Told::Taken {
+            kind: _,
+            guessed: _,
+            records: _,
+            frame: _,
+            lanes: _,
+        } => 0,
+        Told::Refused(n) => n as u64,
+    }
+}
+
+// "4,096th word accepted, 4,097th refused 3": data words in one packet, up to a refusal.
+fn show_full() {
+    let mut t = packet_taken(198);
+    let mut out = [0u64; 24];
+    let mut n: u64 = 0;
+    while n < 5000 {
+        let answer = t.word(b"\0\0\0\0\0\0\0\0\0\x20", &mut out);
+        let told = answer.told;
+        let refused = refusal(told);
+        if refused != 0 {
+            text(b"words ");
+            number(n);
+            text(b" refused ");
+            number(refused);
+            text(b"\n");
+            return;
+        }
+        let next = answer.tracker;
+        t = next;
+        n = n + 1;
+    }
+}
+
+// "Counting a word refused with 4": an IHW with a reserved bit, first with no room, then with room for its record.
+fn show_room() {
+    let t = packet_taken(198);
+    let mut small = [0u64; 3];
+    let first = t.word(b"\0\0\0\x10\0\0\0\0\0\xE0", &mut small);
+    let told = first.told;
+    text(b"refused ");
+    number(refusal(told));
+    let after = first.tracker;
+    let mut out = [0u64; 4];
+    after.word(b"\0\0\0\x10\0\0\0\0\0\xE0", &mut out);
+    text(b" then ");
+    number(out[0]);
+    text(b" ");
+    number(out[1]);
+    text(b" ");
+    number(out[2]);
+    text(b" ");
+    number(out[3]);
+    text(b"\n");
+}
+
+// The found period of a record 45, which stands alone or behind a 440; else a number that is none.
+fn found(out: [u64; 8]) -> u64 {
+    if out[1] == 45 {
+        out[2]
+    } else if out[5] == 45 {
+        out[6]
+    } else {
+        3564
+    }
+}
+
+// "For legal BCs a set period of 3564 always differs": after an IHW and a TDH with BC 0, TDHs at the distances 0, 1 .. 3563.
+fn show_period() {
+    let mut first = [0u64; 8];
+    let begun = packet_taken(3564).word(b"\0\0\0\0\0\0\0\0\0\xE0", &mut first);
+    let ready = begun.tracker;
+    let opened = ready.word(b"\0\x30\0\0\0\0\0\0\0\xE8", &mut first);
+    let mut t = opened.tracker;
+    let mut bc: u64 = 0;
+    let mut differ: u64 = 0;
+    let mut sum: u64 = 0;
+    let mut k: u64 = 0;
+    while k < 3564 {
+        bc = (bc + k) % 3564;
+        let mut word = [0, 0x30, 0, 0, 0, 0, 0, 0, 0, 0xE8];
+        word[2] = (bc % 256) as u8;
+        word[3] = (bc / 256) as u8;
+        let mut out = [0u64; 8];
+        let answer = t.word(&word, &mut out);
+        let period = found(out);
+        if period < 3564 {
+            differ = differ + 1;
+            sum = sum + period;
+        }
+        let next = answer.tracker;
+        t = next;
+        k = k + 1;
+    }
+    text(b"differ ");
+    number(differ);
+    text(b" sum ");
+    number(sum);
+    text(b"\n");
+}
+
+fn main() {
+    show_files();
+    show_full();
+    show_room();
+    show_period();
+}

@@ -1,0 +1,10 @@
+pub mod Decimal
+pub mod Putting
+pub mod Lines
+pub mod Steps
+pub mod Keeping
+pub mod Filling
+pub mod Printing
+pub mod Unique
+pub mod Refused
+pub mod WholeText

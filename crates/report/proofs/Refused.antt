@@ -1,0 +1,66 @@
+-- Over a file that is not refused no packet call and no word call is.
+-- Assumes nothing.
+use Prim.Native.Nat.{ℕ, suc, _+_, _-_, _≤_}
+use mathlib.Core.Path.{_≡_, refl, sym, ap, subst}
+use mathlib.Core.Bool.{true}
+use mathlib.Core.List.{List}
+use native.Mathlib.Numerals.{add-one}
+use native.Mathlib.Omega.{arith}
+use borrow.Author.Tests.{le-ltb}
+use lib.ListN.{length, drop, length-drop}
+use lib.Seq.{length-take-le}
+use Rattle.words.specs.Word.{wordOf}
+use Rattle.validators.specs.declared.Packet.{Packet}
+use Rattle.cdp_running.specs.declared.Tracker.{Tracker}
+use Rattle.cdp_running.specs.Tracker.{startOf, inRange, packetCall, acceptOf}
+use Rattle.cdp_running.specs.Next.{nextOf as afterWord}
+use Rattle.cdp_running.specs.Word.{takenAs, Outcome, takenOf, wordCall, answerOf}
+use Rattle.cdp_running.proofs.Outcome.{admitted-taken}
+use Rattle.cdp_running.proofs.Fine.{at-most-six}
+use Rattle.bench_file.specs.File.{bytesAt, checkOf}
+use Rattle.bench_file.specs.Items.{Item, items}
+use Rattle.bench_file.specs.Reader.{Gives, end, packet-first, then-word, Sound, Place}
+use Rattle.bench_file.proofs.Reading.{sound, packet-given, word-given, at-start, reader-gives}
+use Rattle.report.specs.File.{settings, AllAccepted}
+
+-- A tracker that still takes so many words of its packet.
+record Takes (t : Tracker) (left : ℕ) : Type 0 where
+  accepted : 1 ≤ left → t .accepted ≡ true
+  room : t .count + left ≤ 4096
+
+packet-accepted : (t : Tracker) (p : Packet) → inRange p ≡ true → (packetCall t p .refusal ≡ 0) × (packetCall t p .tracker ≡ acceptOf t p)
+unfolding packetCall
+packet-accepted t p e = (simp e, simp e)
+
+word-taken : (t : Tracker) (left : ℕ) (bytes : List ℕ) → Takes t (suc left) → length bytes ≡ 10
+    → (wordCall t bytes 6 ≡ takenOf t (wordOf bytes)) × Takes (answerOf t (wordCall t bytes 6) .tracker) left
+unfolding takenOf
+word-taken t left bytes h ten =
+    let have = h .accepted (omega arith) in
+    let room = h .room in
+    let e : wordCall t bytes 6 ≡ takenOf t (wordOf bytes) =
+    admitted-taken t bytes 6 (record { ten = ten; accepted = have; low = omega arith; fits = le-ltb 6 _ (at-most-six t (wordOf bytes)) }) in
+    let next : answerOf t (wordCall t bytes 6) .tracker ≡ afterWord t (takenAs t (wordOf bytes)) (wordOf bytes) = ap (λ (o : Outcome). answerOf t o .tracker) e in
+    (e, subst (λ (u : Tracker). Takes u left) (sym next) (record { accepted = λ _. have; room = omega arith }))
+
+module _ {file : List ℕ} (s : Sound file) where
+  ten : (at : ℕ) → at + 10 ≤ length file → length (bytesAt file at) ≡ 10
+  ten at h = length-take-le 10 (drop at file) (simp length-drop (omega arith))
+
+  all-accepted : {i n left : ℕ} {l : List Item} → Gives file i n left l → Place file i n left → (t : Tracker) → Takes t left → AllAccepted t l
+  unfolding AllAccepted
+  all-accepted (end e) place t h = tt
+  all-accepted (packet-first {i = i} {n = n} {count = count} {p = p} e rest) place t h =
+      let given = packet-given s place e in
+      let a = packet-accepted t p (given .in-range) in
+      let next : Takes (packetCall t p .tracker) count = subst (λ (u : Tracker). Takes u count) (sym (a .1)) (record { accepted = λ _. refl; room = omega (arith, given .few) }) in
+      (a .0, all-accepted rest (subst (λ (j : ℕ). Place file j n count) (add-one i) (given .next)) (packetCall t p .tracker) next)
+  all-accepted (then-word {i = i} {n = n} {left = left} {at = at} e rest) place t h =
+      let given = word-given s place e in
+      let less : suc left - 1 ≡ left = omega arith in
+      let w = word-taken t left (bytesAt file at) h (ten at (given .inside)) in
+      (w .0, all-accepted rest (rw (less, add-one n) at (given .next)) (answerOf t (wordCall t (bytesAt file at) 6) .tracker) (w .1))
+
+pub never-refused : (file : List ℕ) → checkOf file ≡ 0 → AllAccepted (startOf settings) (items file)
+never-refused file e =
+    all-accepted (sound file e) (reader-gives file e) (at-start file) (startOf settings) (record { accepted = λ h. absurd (omega arith); room = omega arith })

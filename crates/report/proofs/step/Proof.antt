@@ -1,0 +1,30 @@
+-- `step` meets its contract: each arm by the stage.
+-- Assumes nothing.
+use borrow.Author.Needs.{needs}
+use denote.Ref.{now}
+use mathlib.Core.Path.{refl, ap}
+use Rattle.report.specs.Text.{heading, refusedLine}
+use Rattle.report.specs.Report.{reading}
+use Rattle.report.proofs.Steps.{staged, went-on}
+use Rattle.report.proofs.step.Statement.{statement}
+use Rattle.report.proofs.step.Tie as tie
+
+item-step-requires : tie.Need-item-step-requires
+item-step-requires c κs = (c .before .before .before .before .before .pre .0 .tracker, (c .before .before .before .before .before .pre .0 .going (ap reading (c .before .enum-told2 .given .1)), c .before .before .before .before .before .pre .1))
+
+returns : tie.Need-returns
+unfolding heading
+returns c = staged (now (c .before .before .before .before .before .before .before .before .before .before .args .file)) (c .before .before .before .before .before .before .before .before .before .before .args .r) (c .before .before .before .before .before .before .enum-told .given .1) (went-on (c .at-stage .ensures) (c .before .before .before .put .ensures))
+
+returns-2 : tie.Need-returns-2
+returns-2 c = staged (now (c .before .before .before .before .before .before .before .before .args .file)) (c .before .before .before .before .before .before .before .before .args .r) (c .before .before .before .before .enum-told2 .given .1) (c .before .before .item-step .ensures)
+
+returns-3 : tie.Need-returns-3
+unfolding refusedLine
+returns-3 c = staged (now (c .before .before .before .before .before .before .before .before .before .before .before .args .file)) (c .before .before .before .before .before .before .before .before .before .before .before .args .r) (c .before .before .before .before .before .before .before .stage .given .1) (went-on (c .at-stage2 .ensures) (c .before .before .before .put-count .ensures))
+
+returns-4 : tie.Need-returns-4
+returns-4 c = staged (now (c .before .before .before .before .args .file)) (c .before .before .before .before .args .r) (c .enum-told3 .given .1) (record { answer = refl; buffer-is = refl })
+
+pub step-spec : {M : Type 1} → statement M
+step-spec = tie.close (tie.spec (λ c. search needs) (λ c. search needs) (λ c. search needs) (λ c. search needs) (λ c. search needs) item-step-requires (λ c. search needs) (λ c. search needs) (λ c. search needs) (λ c. search needs) (λ c. search needs) (λ c. search needs) (λ c. search needs) returns (λ c. search needs) returns-2 (λ c. search needs) returns-3 returns-4)

@@ -1,0 +1,170 @@
+-- A report of a file on the way: what each step prints, and what calls of `fill` print, each into the room that it is given.
+-- Assumes nothing.
+use Prim.Native.Nat.{ℕ, zero, suc, _+_, _-_, _*_, _^_, _≤_}
+use mathlib.Core.Path.{_≡_}
+use mathlib.Core.Bool.{Bool, true, false, cond}
+use mathlib.Core.List.{List, [], _++_}
+use lib.Dec.{ltb, eqb}
+use lib.ListN.{length, take}
+use Rattle.words.specs.Word.{wordBytes}
+use Rattle.records.specs.Records.{mostRecords, over}
+use Rattle.cdp_running.specs.declared.Told.{Told}
+use Rattle.cdp_running.specs.declared.Told.the-variants.{Taken, Refused}
+use Rattle.cdp_running.specs.Tracker.{Good, startOf}
+use Rattle.bench_file.specs.declared.Found.{Found}
+use Rattle.bench_file.specs.declared.Found.the-variants as F
+use Rattle.bench_file.specs.File.{bytesAt, checkOf}
+use Rattle.bench_file.specs.Items.{Item, packet, word, itemsFrom}
+use Rattle.bench_file.specs.Reader.{nextOf, Place}
+use Rattle.report.specs.declared.Stage.{Stage}
+use Rattle.report.specs.declared.Stage.the-variants as S
+use Rattle.report.specs.declared.Report.{Report}
+use Rattle.report.specs.declared.Filled.{Filled}
+use Rattle.report.specs.Text.{heading, lines, recordsLine, refusedLine, mostPrinted}
+use Rattle.report.specs.File.{settings, trackerAfter, recordsAfter}
+
+-- The start: the whole file was checked, and nothing is printed yet.
+abbrev pub firstStage : ℕ → Stage
+firstStage refusal = cond (eqb refusal 0) S.Heading (S.Refused refusal)
+
+unfoldable pub startReport : List ℕ → Report
+startReport file =
+    record { stage = firstStage (checkOf file); tracker = startOf settings; packet = 0; word = 0; left = 0; count = 0 }
+
+-- The packets and words that are still to come.
+abbrev pub toCome : List ℕ → Report → List Item
+toCome file r = itemsFrom file (r .packet) (r .word) (r .left)
+
+-- A text, and the report after it.
+pub record Printed : Type 0 where
+  pub report : Report
+  pub text : List ℕ
+
+abbrev pub nothing : Report → Printed
+nothing r = record { report = r; text = [] }
+
+-- One text and then what is printed after it.
+abbrev pub before : Printed → Printed → Printed
+before first rest = record { report = rest .report; text = first .text ++ rest .text }
+
+abbrev pub atStage : Stage → Report → Report
+atStage stage r =
+    record { stage = stage; tracker = r .tracker; packet = r .packet; word = r .word; left = r .left; count = r .count }
+
+-- A packet prints nothing. A word prints the lines of its records. At the end stands the number of all records.
+abbrev pub itemStep : List ℕ → Report → Found → Printed
+itemStep file r (F.Packet p words) =
+    record {
+      report =
+          record {
+            stage = S.Items;
+            tracker = trackerAfter (r .tracker) (packet p words);
+            packet = r .packet + 1;
+            word = r .word;
+            left = words;
+            count = r .count;
+          };
+      text = [];
+    }
+itemStep file r (F.Word at) =
+    let records = recordsAfter (r .tracker) (word at (bytesAt file at)) in
+    record {
+      report =
+          record {
+            stage = S.Items;
+            tracker = trackerAfter (r .tracker) (word at (bytesAt file at));
+            packet = r .packet;
+            word = r .word + 1;
+            left = r .left - 1;
+            count = r .count + length records;
+          };
+      text = lines records;
+    }
+itemStep file r F.End = record { report = atStage S.Done r; text = recordsLine (r .count) }
+
+abbrev pub stageStep : List ℕ → Report → Stage → Printed
+stageStep file r S.Heading = record { report = atStage S.Items r; text = heading }
+stageStep file r S.Items = itemStep file r (nextOf file (r .packet) (r .word) (r .left))
+stageStep file r (S.Refused n) = record { report = atStage S.Done r; text = refusedLine n }
+stageStep file r S.Done = nothing r
+
+unfoldable pub stepOf : List ℕ → Report → Printed
+stepOf file r = stageStep file r (r .stage)
+
+-- How many steps are left.
+abbrev pub stepsAt : ℕ → Stage → ℕ
+stepsAt n S.Heading = n + 2
+stepsAt n S.Items = n + 1
+stepsAt n (S.Refused m) = 1
+stepsAt n S.Done = 0
+
+unfoldable pub stepsLeft : List ℕ → Report → ℕ
+stepsLeft file r = stepsAt (length (toCome file r)) (r .stage)
+
+-- At most so many steps, each where there is room for the most that a step prints.
+unfoldable pub fillFrom : ℕ → List ℕ → Report → ℕ → Printed
+fillFrom zero file r room = nothing r
+fillFrom (suc n) file r room =
+    cond (ltb room mostPrinted) (nothing r)
+    (before (stepOf file r) (fillFrom n file (stepOf file r .report) (room - length (stepOf file r .text))))
+
+abbrev pub fillOf : List ℕ → Report → ℕ → Printed
+fillOf file r room = fillFrom (stepsLeft file r) file r room
+
+-- All is printed.
+abbrev pub isDone : Stage → Bool
+isDone S.Heading = false
+isDone S.Items = false
+isDone (S.Refused n) = false
+isDone S.Done = true
+
+-- Packets and words are still read.
+abbrev pub reading : Stage → Bool
+reading S.Heading = true
+reading S.Items = true
+reading (S.Refused n) = false
+reading S.Done = false
+
+-- The invariant of a report of a file, which the start and every call give: its tracker is a good one; and while packets and words are read, the file is
+-- not refused, the place is one that its reader comes to, and no word gave more than six records.
+pub record GoodReading (file : List ℕ) (r : Report) : Type 0 where
+  pub checked : checkOf file ≡ 0
+  pub place : Place file (r .packet) (r .word) (r .left)
+  pub count : r .count ≤ mostRecords * r .word
+
+pub record GoodReport (file : List ℕ) (r : Report) : Type 0 where
+  pub tracker : Good (r .tracker)
+  pub going : reading (r .stage) ≡ true → GoodReading file r
+
+-- A word that the reader gave, and what is to be counted on.
+pub record GoodWord (file : List ℕ) (r : Report) (at : ℕ) : Type 0 where
+  pub inside : at + wordBytes ≤ length file
+  pub one-left : 1 ≤ r .left
+  pub word-low : r .word ≤ 2 ^ 32
+  pub count-low : r .count ≤ 2 ^ 32
+
+-- What is told of a text: the report after it, and how many bytes stand at the front of the buffer, whose rest stays.
+abbrev pub filledOf : Printed → Filled
+filledOf p = record { report = p .report; n = length (p .text) }
+
+pub record Prints (p : Printed) (buffer : List ℕ) (r : Filled) (after : List ℕ) : Type 0 where
+  pub answer : r ≡ filledOf p
+  pub buffer-is : after ≡ over (p .text) buffer
+
+-- What a call of `fill` gives.
+pub record FillPost (file : List ℕ) (report : Report) (buffer : List ℕ) (r : Filled) (after : List ℕ) : Type 0 where
+  pub prints : Prints (fillOf file report (length buffer)) buffer r after
+  pub good : GoodReport file (r .report)
+
+-- Calls of `fill` one after the other, each with a buffer that has room for a step, until all is printed: how many they are, and what stands at the
+-- front of the buffers.
+pub data Calls (file : List ℕ) : Report → ℕ → List ℕ → Type 0 where
+  done : {r : Report} → isDone (r .stage) ≡ true → Calls file r 0 []
+  call : {r : Report} {buffer after : List ℕ} {p : Filled} {n : ℕ} {rest : List ℕ} → isDone (r .stage) ≡ false → mostPrinted ≤ length buffer
+      → FillPost file r buffer p after → Calls file (p .report) n rest
+      → Calls file r (suc n) (take (p .n) after ++ rest)
+
+-- How many records a word call told.
+abbrev pub recordsTold : Told → ℕ
+recordsTold (Taken kind guessed records frame lanes) = records
+recordsTold (Refused n) = 0

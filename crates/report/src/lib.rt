@@ -1,0 +1,244 @@
+// What benchcheck prints of a bench file, step by step into lent buffers. Document 01, "Bench file".
+ghost use mathlib.Core.Path.{_≡_};
+ghost use mathlib.Core.List.{[]};
+ghost use Prim.Native.Nat.{_≤_, _^_};
+ghost use lib.ListN.{length};
+ghost use Rattle.cdp_running.specs.Tracker.{Good};
+ghost use Rattle.report.specs.Text.{mostPrinted};
+ghost use Rattle.report.specs.Report.{startReport, firstStage, atStage, itemStep, stepOf, isDone, recordsTold, filledOf, GoodWord, GoodReading, GoodReport, Prints, FillPost};
+ghost use Rattle.bench_file.specs.Reader.{nextOf};
+ghost use Rattle.bench_file.specs.declared.Found.the-variants as F;
+
+mod text;
+
+use bench_file::Found;
+use cdp_running::Told;
+use cdp_running::Tracker;
+use validators::Packet;
+use validators::Settings;
+use words::Word;
+
+// The most bytes that a step prints: the lines of a word's records, of numbers with 20 digits.
+pub const MOST: usize = records::MOST * records::WIDTH * 21;
+
+// The period that is set.
+pub const PERIOD: u16 = 198;
+
+// What is printed next: the heading, the lines of a packet or word or the number of all records, the refusal, or nothing more.
+pub enum Stage {
+    Heading,
+    Items,
+    Refused(u8),
+    Done,
+}
+
+// A report on the way: the tracker and the place in the file, and the records so far.
+pub struct Report {
+    pub stage: Stage,
+    pub tracker: Tracker,
+    pub packet: usize,
+    pub word: usize,
+    pub left: usize,
+    pub count: u64,
+}
+
+// The report after a text, and how many bytes of a buffer the text has.
+pub struct Filled {
+    pub report: Report,
+    pub n: usize,
+}
+
+fn first_stage(refusal: u8) -> Stage
+    ensures { λ r. ⌜ r ≡ firstStage refusal ⌝ }
+{
+    if refusal == 0 {
+        Stage::Heading
+    } else {
+        Stage::Refused(refusal)
+    }
+}
+
+fn is_done(stage: Stage) -> bool
+    ensures { λ r. ⌜ r ≡ isDone stage ⌝ }
+{
+    match stage {
+        Stage::Heading => false,
+        Stage::Items => false,
+        Stage::Refused(_) => false,
+        Stage::Done => true,
+    }
+}
+
+// The same report at another stage.
+fn at_stage(r: Report, stage: Stage) -> Report
+    ensures { λ r′. ⌜ r′ ≡ atStage stage r ⌝ }
+{
+    let tracker = r.tracker;
+    Report {
+        stage: stage,
+        tracker: tracker,
+        packet: r.packet,
+        word: r.word,
+        left: r.left,
+        count: r.count,
+    }
+}
+
+// How many records a word call told. (No word of a file that was not refused is refused: proofs/Refused.antt, `never-refused`.)
+fn records_told(told: Told) -> u64
+    ensures { λ r. ⌜ r ≡ recordsTold told ⌝ }
+{
+    match told {
+        Told::Taken {
+            kind: _,
+            guessed: _,
+            records,
+            frame: _,
+            lanes: _,
+        } => records,
+        Told::Refused(_) => 0,
+    }
+}
+
+// A packet: nothing is printed, and its words come next.
+fn packet_step(r: Report, packet: Packet, words: u16) -> Filled
+    requires { ⌜ Good (r .tracker) ⌝ }
+    requires { ⌜ r .packet ≤ 2 ^ 32 ⌝ }
+    ensures { λ p. ⌜ p ≡ filledOf (itemStep [] r (F.Packet packet words)) ⌝ }
+{
+    let tracker = r.tracker;
+    let answer = tracker.packet(packet);
+    let next = answer.tracker;
+    Filled {
+        report: Report {
+            stage: Stage::Items,
+            tracker: next,
+            packet: r.packet + 1,
+            word: r.word,
+            left: words as usize,
+            count: r.count,
+        },
+        n: 0,
+    }
+}
+
+// The word at a place of the file: the lines of its records.
+fn word_step(r: Report, file: &[u8], at: usize, out: &mut [u8]) -> Filled
+    requires { ⌜ Good (r .tracker) ⌝ }
+    requires { ⌜ GoodWord (now file) r at ⌝ }
+    requires { ⌜ mostPrinted ≤ length (now out) ⌝ }
+    ensures { λ p. ⌜ Prints (itemStep (now (file .entry)) r (F.Word at)) (now (out .entry)) p (now (out .exit)) ⌝ }
+{
+    let tracker = r.tracker;
+    let end = at + Word::SIZE;
+    let mut records = [0u64; records::MOST * records::WIDTH];
+    let answer = tracker.word(&file[at..end], &mut records);
+    let told = answer.told;
+    let next = answer.tracker;
+    let given = records_told(told);
+    let n = text::put_lines(out, &records, given as usize);
+    Filled {
+        report: Report {
+            stage: Stage::Items,
+            tracker: next,
+            packet: r.packet,
+            word: r.word + 1,
+            left: r.left - 1,
+            count: r.count + given,
+        },
+        n: n,
+    }
+}
+
+// What comes next in the file: a packet, a word, or the number of all records.
+fn item_step(r: Report, file: &[u8], out: &mut [u8]) -> Filled
+    requires { ⌜ Good (r .tracker) ⌝ }
+    requires { ⌜ GoodReading (now file) r ⌝ }
+    requires { ⌜ mostPrinted ≤ length (now out) ⌝ }
+    ensures { λ p. ⌜ Prints (itemStep (now (file .entry)) r (nextOf (now (file .entry)) (r .packet) (r .word) (r .left))) (now (out .entry)) p (now (out .exit)) ⌝ }
+{
+    match bench_file::next(file, r.packet, r.word, r.left) {
+        Found::Packet { packet, words } => packet_step(r, packet, words),
+        Found::Word { at } => word_step(r, file, at, out),
+        Found::End => Filled {
+            n: text::put_count(out, b"records ", r.count),
+            report: at_stage(r, Stage::Done),
+        },
+    }
+}
+
+// One step: its text at the front of a buffer that has room for the most that a step prints.
+fn step(r: Report, file: &[u8], out: &mut [u8]) -> Filled
+    requires { ⌜ GoodReport (now file) r ⌝ }
+    requires { ⌜ mostPrinted ≤ length (now out) ⌝ }
+    ensures { λ p. ⌜ Prints (stepOf (now (file .entry)) r) (now (out .entry)) p (now (out .exit)) ⌝ }
+{
+    let stage = r.stage;
+    match stage {
+        Stage::Heading => Filled {
+            n: text::put(out, b"pos code first second\n"),
+            report: at_stage(r, Stage::Items),
+        },
+        Stage::Items => item_step(r, file, out),
+        Stage::Refused(number) => Filled {
+            n: text::put_count(out, b"refused ", number as u64),
+            report: at_stage(r, Stage::Done),
+        },
+        Stage::Done => Filled { report: r, n: 0 },
+    }
+}
+
+impl Report {
+    // The start: the whole file is checked before anything is printed.
+    pub fn start(file: &[u8]) -> Report
+        ensures { λ r. ⌜ (r ≡ startReport (now (file .entry))) × GoodReport (now (file .entry)) r ⌝ }
+    {
+        let refusal = bench_file::check(file);
+        Report {
+            stage: first_stage(refusal),
+            tracker: Tracker::start(Settings {
+                running: true,
+                frames: true,
+                periodic: true,
+                period: PERIOD,
+            }),
+            packet: 0,
+            word: 0,
+            left: 0,
+            count: 0,
+        }
+    }
+
+    // Whether all is printed.
+    pub fn finished(self) -> bool
+        ensures { λ r. ⌜ r ≡ isDone (self .stage) ⌝ }
+    {
+        let stage = self.stage;
+        is_done(stage)
+    }
+
+    // As much of the report as has room at the front of out, whose rest stays. A buffer of at least MOST bytes brings the report on.
+    pub fn fill(self, file: &[u8], out: &mut [u8]) -> Filled
+        requires { ⌜ GoodReport (now file) self ⌝ }
+        ensures { λ p. ⌜ FillPost (now (file .entry)) self (now (out .entry)) p (now (out .exit)) ⌝ }
+    {
+        let mut cur = self;
+        let mut used: usize = 0;
+        while MOST <= out.len() - used {
+            if cur.finished() {
+                return Filled {
+                    report: cur,
+                    n: used,
+                };
+            }
+            let filled = step(cur, file, &mut out[used..]);
+            let next = filled.report;
+            cur = next;
+            used = used + filled.n;
+        }
+        Filled {
+            report: cur,
+            n: used,
+        }
+    }
+}
