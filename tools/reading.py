@@ -1,5 +1,6 @@
 #!/usr/bin/env python3
-"""reading.py: every path and every name that docs/READING.md gives in backquotes stands in the tree. Exit status 1 where one does not."""
+"""reading.py: every path and every name that docs/READING.md gives in backquotes stands in the tree, and docs/TRUST.md lists every file of specs/ with
+its lines. Exit status 1 where that is not so."""
 import os
 import re
 import sys
@@ -13,6 +14,24 @@ def files(*ends):
         for n in names:
             if n.endswith(ends):
                 yield os.path.join(d, n)
+
+
+def specs():
+    """What is wrong with the list of definitions in docs/TRUST.md."""
+    with open(os.path.join(TOP, 'docs', 'TRUST.md'), encoding='utf8') as f:
+        text = f.read()
+    listed = {p: int(n) for p, n in re.findall(r'^\| `([^`]*\.antt)` \| (\d+) \|', text, re.M)}
+    there = {}
+    for p in files('.antt'):
+        if os.path.basename(os.path.dirname(p)) == 'specs' and os.path.basename(p) != 'Lib.antt':
+            with open(p, encoding='utf8') as f:
+                there[os.path.relpath(p, CRATES)] = len(f.read().splitlines())
+    wrong = [f'{p} has {n} lines' for p, n in sorted(there.items()) if listed.get(p) != n]
+    wrong += [f'{p} is not there' for p in sorted(listed) if p not in there]
+    total = re.search(r'^\| in all \| (\d+) \|', text, re.M)
+    if not total or int(total.group(1)) != sum(there.values()):
+        wrong.append(f'all have {sum(there.values())} lines')
+    return wrong
 
 
 def main():
@@ -40,9 +59,12 @@ def main():
             missing.append(name)
     for name in missing:
         print(f'reading: `{name}` of docs/READING.md stands nowhere')
-    if not missing:
-        print(f'reading: {seen} paths and names of docs/READING.md, all there')
-    sys.exit(1 if missing else 0)
+    wrong = specs()
+    for said in wrong:
+        print(f'reading: docs/TRUST.md: {said}')
+    if not missing and not wrong:
+        print(f'reading: {seen} paths and names of docs/READING.md, all there; docs/TRUST.md lists every file of specs/')
+    sys.exit(1 if missing or wrong else 0)
 
 
 main()

@@ -24,7 +24,7 @@ use Rattle.validators.specs.DataWords.{firstCdw}
 use Rattle.cdp_running.specs.declared.StoredIhw.{StoredIhw}
 use Rattle.cdp_running.specs.declared.Frame.{Frame}
 use Rattle.cdp_running.specs.declared.Tracker.{Tracker}
-use Rattle.cdp_running.specs.Tracker.{Good, GoodIhw, GoodTdh, GoodInternal, GoodCdw, GoodFrame, startOf, resetOf, acceptOf, inRange, maxPosition, mostPosition, maxWords, positionOf, afterIhw, afterTdh, noPacket, noIhw, noTdh, noInternal, noCdw, noFrame}
+use Rattle.cdp_running.specs.Tracker.{Good, GoodIhw, GoodTdh, GoodInternal, GoodCdw, GoodFrame, startOf, resetOf, acceptOf, inRange, maxPosition, mostPosition, maxWords, positionOf, pastIhw, pastTdh, noPacket, noIhw, noTdh, noInternal, noCdw, noFrame}
 use Rattle.cdp_running.specs.Next.{nextIhw, nextTdh, nextInternal, nextCdw, nextFrame, opens, closes, nextOf}
 use Rattle.cdp_running.specs.Word.{takenAs, positionNow}
 use Rattle.cdp_running.proofs.Presence.{comes}
@@ -66,7 +66,7 @@ good-start s =
       packet = refl;
       count = omega arith;
       ihw = record { lanes = omega arith; absent = λ _. refl };
-      tdh = record { kind = omega arith; bc = omega arith; absent = λ _. refl };
+      tdh = record { trigger = omega arith; bc = omega arith; absent = λ _. refl };
       internal = record { bc = omega arith; absent = λ _. refl };
       cdw = record { user = omega arith; absent = λ _. refl };
       frame = record { start = omega arith; absent = λ _. refl; off = λ _. refl };
@@ -132,7 +132,7 @@ good-ihw : (kind : ItsPayloadWord) (w : Word) (old : StoredIhw) → GoodIhw old 
 good-ihw kind w old g = choice GoodIhw (isIhw kind) (record { lanes = bits-below 27 0 w; absent = λ e. clash e }) g
 
 good-tdh : (kind : ItsPayloadWord) (w : Word) (old : StoredTdh) → GoodTdh old → GoodTdh (nextTdh kind w old)
-good-tdh kind w old g = choice GoodTdh (isTdh kind) (record { kind = bits-below 11 0 w; bc = bits-below 27 16 w; absent = λ e. clash e }) g
+good-tdh kind w old g = choice GoodTdh (isTdh kind) (record { trigger = bits-below 11 0 w; bc = bits-below 27 16 w; absent = λ e. clash e }) g
 
 good-internal : (kind : ItsPayloadWord) (w : Word) (old : InternalTdh) → GoodInternal old → GoodInternal (nextInternal kind w old)
 good-internal kind w old g =
@@ -163,7 +163,7 @@ kept-tdh : (kind : ItsPayloadWord) (w : Word) (old : StoredTdh) (after : Bool) �
     → (isTdh kind || after) ≡ true → nextTdh kind w old .stored ≡ true
 kept-tdh kind w old after h e = at (isTdh kind) e
   where
-    at : (b : Bool) → (b || after) ≡ true → cond b (record { stored = true; kind = triggerType w; bc = triggerBc w; orbit = triggerOrbit w }) old .stored ≡ true
+    at : (b : Bool) → (b || after) ≡ true → cond b (record { stored = true; trigger = triggerType w; bc = triggerBc w; orbit = triggerOrbit w }) old .stored ≡ true
     at true e = refl
     at false e = h e
 
@@ -180,7 +180,7 @@ good-next t w g have h =
       internal = good-internal (a .word) w (t .internal) (g .internal);
       cdw = good-cdw (a .word) (t .seen) w (t .cdw) (g .cdw);
       frame = good-frame (t .settings .frames) (a .word) w (positionNow t) (t .frame) (position-most t g h) (g .frame);
-      ihw-present = λ e. kept-ihw (a .word) w (t .ihw) (afterIhw (t .fsm .state)) (g .ihw-present) (c .ihw e);
-      tdh-present = λ e. kept-tdh (a .word) w (t .tdh) (afterTdh (t .fsm .state)) (g .tdh-present) (c .tdh e);
+      ihw-present = λ e. kept-ihw (a .word) w (t .ihw) (pastIhw (t .fsm .state)) (g .ihw-present) (c .ihw e);
+      tdh-present = λ e. kept-tdh (a .word) w (t .tdh) (pastTdh (t .fsm .state)) (g .tdh-present) (c .tdh e);
       fresh = λ e. clash (sym have ∙ e);
     }

@@ -14,16 +14,16 @@ use Rattle.payload_fsm.specs.Kinds.{isIhw, isTdh, isData}
 use Rattle.payload_fsm.specs.Step.{advanceOf}
 use Rattle.payload_fsm.proofs.Rows.{choice, data-rows, three-rows}
 use Rattle.cdp_running.specs.declared.Tracker.{Tracker}
-use Rattle.cdp_running.specs.Tracker.{Good, afterIhw, afterTdh}
+use Rattle.cdp_running.specs.Tracker.{Good, pastIhw, pastTdh}
 use Rattle.cdp_running.specs.Word.{takenAs}
 
 -- A step out of the start state takes an IHW, and a step out of IHW_ and TDH_ a TDH.
 pub record Comes (state : State) (a : Advanced) : Type 0 where
-  pub ihw : afterIhw (a .fsm .state) ≡ true → (isIhw (a .word) || afterIhw state) ≡ true
-  pub tdh : afterTdh (a .fsm .state) ≡ true → (isTdh (a .word) || afterTdh state) ≡ true
+  pub ihw : pastIhw (a .fsm .state) ≡ true → (isIhw (a .word) || pastIhw state) ≡ true
+  pub tdh : pastTdh (a .fsm .state) ≡ true → (isTdh (a .word) || pastTdh state) ≡ true
 
 -- Where the state is after both already.
-both : {state : State} {a : Advanced} → afterIhw state ≡ true → afterTdh state ≡ true → Comes state a
+both : {state : State} {a : Advanced} → pastIhw state ≡ true → pastTdh state ≡ true → Comes state a
 both {a = a} i h = record { ihw = λ _. rw i (or-true (isIhw (a .word))); tdh = λ _. rw h (or-true (isTdh (a .word))) }
 
 pub comes : (state : State) (w : Word) → Comes state (advanceOf state w)
@@ -37,11 +37,11 @@ comes S.CTdh w = both refl refl
 
 -- A data word is taken after an IHW, and a TDH that is compared with the previous one after a TDH.
 pub record Reads (state : State) (a : Advanced) : Type 0 where
-  pub data-word : isData (a .word) ≡ true → afterIhw state ≡ true
-  pub after-packet-done : a .word ≡ K.TdhAfterPacketDone → afterTdh state ≡ true
-  pub continuation : a .word ≡ K.TdhContinuation → afterTdh state ≡ true
+  pub data-word : isData (a .word) ≡ true → pastIhw state ≡ true
+  pub after-packet-done : a .word ≡ K.TdhAfterPacketDone → pastTdh state ≡ true
+  pub continuation : a .word ≡ K.TdhContinuation → pastTdh state ≡ true
 
-all-after : {state : State} {a : Advanced} → afterIhw state ≡ true → afterTdh state ≡ true → Reads state a
+all-after : {state : State} {a : Advanced} → pastIhw state ≡ true → pastTdh state ≡ true → Reads state a
 all-after i h = record { data-word = λ _. i; after-packet-done = λ _. h; continuation = λ _. h }
 
 pub read : (state : State) (w : Word) → Reads state (advanceOf state w)

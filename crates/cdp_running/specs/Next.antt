@@ -29,7 +29,7 @@ nextIhw kind w old = cond (isIhw kind) (record { stored = true; lanes = activeLa
 -- "TDH: .. Stored after that, whatever its kind and id"
 abbrev pub nextTdh : ItsPayloadWord → Word → StoredTdh → StoredTdh
 nextTdh kind w old =
-    cond (isTdh kind) (record { stored = true; kind = triggerType w; bc = triggerBc w; orbit = triggerOrbit w }) old
+    cond (isTdh kind) (record { stored = true; trigger = triggerType w; bc = triggerBc w; orbit = triggerOrbit w }) old
 
 -- "this TDH is internal and an earlier one was (the last such)"
 abbrev pub nextInternal : ItsPayloadWord → Word → InternalTdh → InternalTdh

@@ -25,7 +25,7 @@ abbrev pub noIhw : StoredIhw
 noIhw = record { stored = false; lanes = 0 }
 
 abbrev pub noTdh : StoredTdh
-noTdh = record { stored = false; kind = 0; bc = 0; orbit = 0 }
+noTdh = record { stored = false; trigger = 0; bc = 0; orbit = 0 }
 
 abbrev pub noInternal : InternalTdh
 noInternal = record { stored = false; bc = 0 }
@@ -121,23 +121,23 @@ abbrev pub mostPosition : ℕ
 mostPosition = maxPosition + 64 + 16 * 4095
 
 -- The states outside the start state, and those after a TDH.
-abbrev pub afterIhw : State → Bool
-afterIhw S.Ihw = false
-afterIhw S.Tdh = true
-afterIhw S.Data = true
-afterIhw S.CData = true
-afterIhw S.Three = true
-afterIhw S.CIhw = true
-afterIhw S.CTdh = true
+abbrev pub pastIhw : State → Bool
+pastIhw S.Ihw = false
+pastIhw S.Tdh = true
+pastIhw S.Data = true
+pastIhw S.CData = true
+pastIhw S.Three = true
+pastIhw S.CIhw = true
+pastIhw S.CTdh = true
 
-abbrev pub afterTdh : State → Bool
-afterTdh S.Ihw = false
-afterTdh S.Tdh = false
-afterTdh S.Data = true
-afterTdh S.CData = true
-afterTdh S.Three = true
-afterTdh S.CIhw = true
-afterTdh S.CTdh = true
+abbrev pub pastTdh : State → Bool
+pastTdh S.Ihw = false
+pastTdh S.Tdh = false
+pastTdh S.Data = true
+pastTdh S.CData = true
+pastTdh S.Three = true
+pastTdh S.CIhw = true
+pastTdh S.CTdh = true
 
 -- What is stored fits its bits, and is 0 where it is absent.
 pub record GoodSettings (s : Settings) : Type 0 where
@@ -148,7 +148,7 @@ pub record GoodIhw (i : StoredIhw) : Type 0 where
   pub absent : i .stored ≡ false → i ≡ noIhw
 
 pub record GoodTdh (h : StoredTdh) : Type 0 where
-  pub kind : h .kind < 2 ^ 12
+  pub trigger : h .trigger < 2 ^ 12
   pub bc : h .bc < 2 ^ 12
   pub absent : h .stored ≡ false → h ≡ noTdh
 
@@ -176,8 +176,8 @@ pub record Good (t : Tracker) : Type 0 where
   pub internal : GoodInternal (t .internal)
   pub cdw : GoodCdw (t .cdw)
   pub frame : GoodFrame (t .settings .frames) (t .frame)
-  pub ihw-present : afterIhw (t .fsm .state) ≡ true → t .ihw .stored ≡ true
-  pub tdh-present : afterTdh (t .fsm .state) ≡ true → t .tdh .stored ≡ true
+  pub ihw-present : pastIhw (t .fsm .state) ≡ true → t .ihw .stored ≡ true
+  pub tdh-present : pastTdh (t .fsm .state) ≡ true → t .tdh .stored ≡ true
   pub fresh : t .accepted ≡ false → t ≡ startOf (t .settings)
 
 -- What a packet call gives.

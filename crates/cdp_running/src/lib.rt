@@ -204,7 +204,7 @@ impl Tracker {
             },
             tdh: StoredTdh {
                 stored: false,
-                kind: 0,
+                trigger: 0,
                 bc: 0,
                 orbit: 0,
             },

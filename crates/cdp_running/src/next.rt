@@ -41,7 +41,7 @@ pub fn tdh(kind: ItsPayloadWord, word: Word, old: StoredTdh) -> StoredTdh
         let tdh = Tdh { word: word };
         StoredTdh {
             stored: true,
-            kind: tdh.trigger_type(),
+            trigger: tdh.trigger_type(),
             bc: tdh.trigger_bc(),
             orbit: tdh.trigger_orbit(),
         }

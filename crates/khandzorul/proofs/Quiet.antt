@@ -20,7 +20,7 @@ use Rattle.cdp_running.specs.declared.Tracker.{Tracker}
 use Rattle.cdp_running.specs.Next.{frameTold, lanesTold}
 use Rattle.cdp_running.specs.Word as Word
 use Rattle.cdp_running.specs.Word.{Outcome, taken, takenAs, positionNow, wordCall, recordsIn}
-use Rattle.payload.specs.Quiet.{quietId, checkedLanes, inData}
+use Rattle.payload.specs.Quiet.{quietId, checkedLanes, amongData}
 use Rattle.payload.proofs.QuietId.{as-data, quietNext, quiet-silent, quiet-next}
 use Rattle.payload.proofs.Run.{silent-call}
 use Rattle.tracker_array.specs.Array.{encodeOf}
@@ -35,7 +35,7 @@ use Rattle.khandzorul.specs.Calls.{WordOn}
 use Rattle.khandzorul.specs.Quiet.{quietWord}
 
 -- The word call on a quiet data word.
-module _ (t : Tracker) (bytes : List ℕ) (ten : length bytes ≡ 10) (have : t .accepted ≡ true) (low : t .count < 4096) (state : inData (t .fsm .state) ≡ true)
+module _ (t : Tracker) (bytes : List ℕ) (ten : length bytes ≡ 10) (have : t .accepted ≡ true) (low : t .count < 4096) (state : amongData (t .fsm .state) ≡ true)
     (q : quietId (checkedLanes (t .settings .running) (t .ihw .lanes)) (idOf (wordOf bytes)) ≡ true) where
   abbrev by : Advanced → Outcome
   by a = taken (quietNext t 1) (a .word) (a .guessed) [] (frameTold (t .settings .frames) (a .word) (wordOf bytes) (positionNow t) (t .frame)) (lanesTold (a .word) (wordOf bytes))
@@ -74,7 +74,7 @@ module _ (a bytes buffer : List ℕ) (q : quietWord a bytes ≡ true) (byte : (i
       let ten = eqb-true _ _ (two .0) in
       let quiet : quietId (checkedLanes (isOn (place a 1)) (place a 17)) (idOf (wordOf bytes)) ≡ true =
       ap (quietId (checkedLanes (isOn (place a 1)) (place a 17))) (id-byte bytes ten byte) ∙ both (takesData a) _ (two .1) .1 in
-      let call = quiet-call t bytes ten (aw .accepted) (aw .low) (among inData (place a 13) refl refl (aw .state)) quiet (room buffer) in
+      let call = quiet-call t bytes ten (aw .accepted) (aw .low) (among amongData (place a 13) refl refl (aw .state)) quiet (room buffer) in
       record {
         answer = rw (aw .is) (p ∙ sym (ap (λ (o : Outcome). toldNumbers (Word.answerOf t o .told)) call));
         tracker =

@@ -28,7 +28,7 @@ use Rattle.validators.specs.DataWords.{firstCdw, inner, outer, dataRows}
 use Rattle.cdp_running.specs.declared.Tracker.{Tracker}
 use Rattle.cdp_running.specs.Next.{nextOf}
 use Rattle.cdp_running.specs.Word.{takenAs, rowsOf}
-use Rattle.payload.specs.Quiet.{laneOf, quietId, checkedLanes, inData, idAt, QuietWords}
+use Rattle.payload.specs.Quiet.{laneOf, quietId, checkedLanes, amongData, idAt, QuietWords}
 
 -- The bit of a lane, where n is one more than the lane, and none where n is 0.
 abbrev pub laneBit : ℕ → ℕ → Bool
@@ -109,7 +109,7 @@ low id h d = at (isDataId id) (eqb (id / 32) 2 && ltb 6 (id % 8)) d (agree seven
     at false b p q = absurd (true≢false (sym p))
 
 module _ (w : Word) (data-id : isDataId (idOf w) ≡ true) where
-  pub as-data : (state : State) → inData state ≡ true → advanceOf state w ≡ taken K.DataWord state
+  pub as-data : (state : State) → amongData state ≡ true → advanceOf state w ≡ taken K.DataWord state
   as-data S.Ihw e = absurd (true≢false (sym e))
   as-data S.Tdh e = absurd (true≢false (sym e))
   as-data S.Data e = simp (other (idOf w) 0xF0 data-id refl, other (idOf w) 0xF8 data-id refl, data-id)
@@ -184,7 +184,7 @@ quietNext t n =
       frame = t .frame;
     }
 
-module _ (t : Tracker) (w : Word) (among : inData (t .fsm .state) ≡ true) (q : quietId (checkedLanes (t .settings .running) (t .ihw .lanes)) (idOf w) ≡ true) where
+module _ (t : Tracker) (w : Word) (among : amongData (t .fsm .state) ≡ true) (q : quietId (checkedLanes (t .settings .running) (t .ihw .lanes)) (idOf w) ≡ true) where
   is-data : isDataId (idOf w) ≡ true
   is-data = left (isDataId (idOf w)) _ q
 

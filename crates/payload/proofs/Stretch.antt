@@ -20,7 +20,7 @@ use Rattle.cdp_running.specs.Next.{nextOf}
 use Rattle.cdp_running.specs.Word.{takenAs, rowsOf}
 use Rattle.cdp_running.proofs.Good.{good-next}
 use Rattle.payload.specs.Payload.{Run, preceded, wordsFrom}
-use Rattle.payload.specs.Quiet.{quietId, checkedLanes, inData, idAt, QuietRun}
+use Rattle.payload.specs.Quiet.{quietId, checkedLanes, amongData, idAt, QuietRun}
 use Rattle.payload.specs.Silent.{Ready, Glide}
 use Rattle.payload.proofs.QuietId.{quietNext, quiet-silent, quiet-next}
 use Rattle.payload.proofs.Run.{preceded-twice, silent-step}
@@ -52,7 +52,7 @@ module _ (b : List ℕ) (byte : (i : ℕ) → getD b i 0 < 256) where
   whole-word at h = length-take-le 10 (drop at b) (simp length-drop (omega arith))
 
   -- One quiet data word.
-  data-step : (n at : ℕ) (t : Tracker) (places : ℕ) → at + 10 ≤ length b → t .accepted ≡ true → t .count < maxWords → inData (t .fsm .state) ≡ true
+  data-step : (n at : ℕ) (t : Tracker) (places : ℕ) → at + 10 ≤ length b → t .accepted ≡ true → t .count < maxWords → amongData (t .fsm .state) ≡ true
       → quietId (asked t) (getD b (at + 9) 0) ≡ true
       → wordsFrom (suc n) t (drop at b) places ≡ preceded 1 [] (wordsFrom n (quietNext t 1) (drop (at + 10) b) places)
   data-step n at t places fits have low among quiet =
@@ -63,7 +63,7 @@ module _ (b : List ℕ) (byte : (i : ℕ) → getD b i 0 < 256) where
       ∙ (λ i. preceded 1 [] (wordsFrom n (quiet-next t w among q i) (drop-drop 10 at b i) places))
 
   -- One more than n of them.
-  data-steps : (n m at : ℕ) (t : Tracker) (places : ℕ) → at + 10 * suc n ≤ length b → t .accepted ≡ true → t .count + suc n ≤ maxWords → inData (t .fsm .state) ≡ true
+  data-steps : (n m at : ℕ) (t : Tracker) (places : ℕ) → at + 10 * suc n ≤ length b → t .accepted ≡ true → t .count + suc n ≤ maxWords → amongData (t .fsm .state) ≡ true
       → ((i : ℕ) → i < suc n → quietId (asked t) (idAt b at i) ≡ true)
       → wordsFrom (suc (n + m)) t (drop at b) places ≡ preceded (suc n) [] (wordsFrom m (quietNext t (suc n)) (drop (at + 10 * suc n) b) places)
   data-steps zero m at t places fits have low among each =

@@ -25,14 +25,14 @@ abbrev pub checkedLanes : Bool → ℕ → ℕ
 checkedLanes running lanes = cond running lanes (2 ^ 28 - 1)
 
 -- DATA_ and c_DATA_.
-abbrev pub inData : State → Bool
-inData S.Ihw = false
-inData S.Tdh = false
-inData S.Data = true
-inData S.CData = true
-inData S.Three = false
-inData S.CIhw = false
-inData S.CTdh = false
+abbrev pub amongData : State → Bool
+amongData S.Ihw = false
+amongData S.Tdh = false
+amongData S.Data = true
+amongData S.CData = true
+amongData S.Three = false
+amongData S.CIhw = false
+amongData S.CTdh = false
 
 -- The id of word i from a place on.
 abbrev pub idAt : List ℕ → ℕ → ℕ → ℕ
@@ -47,5 +47,5 @@ pub record QuietWords (lanes : ℕ) (bytes : List ℕ) (at most n : ℕ) : Type 
 pub record QuietRun (state : State) (running : Bool) (lanes count : ℕ) (bytes : List ℕ) (at n : ℕ) : Type 0 where
   pub fits : at + wordBytes * n ≤ length bytes
   pub room : count + n ≤ maxWords
-  pub among : (n ≡ 0 → ⊥) → inData state ≡ true
+  pub among : (n ≡ 0 → ⊥) → amongData state ≡ true
   pub each : (i : ℕ) → i < n → quietId (checkedLanes running lanes) (idAt bytes at i) ≡ true

@@ -4,7 +4,7 @@ ghost use Prim.Native.Nat.{_+_, _*_, _≤_, _<_, _^_};
 ghost use lib.ListN.{length};
 ghost use Rattle.words.specs.Word.{wordBytes};
 ghost use Rattle.cdp_running.specs.Tracker.{maxWords};
-ghost use Rattle.payload.specs.Quiet.{quietId, checkedLanes, inData, QuietWords, QuietRun};
+ghost use Rattle.payload.specs.Quiet.{quietId, checkedLanes, amongData, QuietWords, QuietRun};
 use cdp_running::MAX_WORDS;
 use payload_fsm::State;
 use words::Word;
@@ -60,8 +60,8 @@ fn least(x: usize, y: usize) -> usize
 }
 
 // DATA_ and c_DATA_.
-fn in_data(state: State) -> bool
-    ensures { λ r. ⌜ r ≡ inData state ⌝ }
+fn among_data(state: State) -> bool
+    ensures { λ r. ⌜ r ≡ amongData state ⌝ }
 {
     match state {
         State::Ihw => false,
@@ -87,7 +87,7 @@ pub(crate) fn quiet_run(
     requires { ⌜ at ≤ length (now bytes) ⌝ }
     ensures { λ r. ⌜ QuietRun state running lanes count (now (bytes .entry)) at r ⌝ }
 {
-    if in_data(state) {
+    if among_data(state) {
         let most = least(
             (MAX_WORDS - count) as usize,
             (bytes.len() - at) / Word::SIZE,

@@ -85,5 +85,5 @@ continuationRows s previous w =
     detailed 40 (detail w) ∷ when (s .running && differ (continuation w) 1) 41 0 0
     ∷ when (s .running && differ (triggerBc w) (previous .bc)) 441 (triggerBc w) (previous .bc)
     ∷ when (s .running && differ (triggerOrbit w) (previous .orbit)) 442 (triggerOrbit w) (previous .orbit)
-    ∷ when (s .running && differ (triggerType w) (previous .kind)) 443 (triggerType w) (previous .kind)
+    ∷ when (s .running && differ (triggerType w) (previous .trigger)) 443 (triggerType w) (previous .trigger)
     ∷ []

@@ -158,10 +158,10 @@ pub fn check_continuation(settings: Settings, previous: StoredTdh, word: Word) -
             previous.orbit as u64,
         ),
         when(
-            settings.running & (kind != previous.kind),
+            settings.running & (kind != previous.trigger),
             443,
             kind as u64,
-            previous.kind as u64,
+            previous.trigger as u64,
         ),
         z,
     ]

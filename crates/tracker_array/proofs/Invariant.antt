@@ -13,7 +13,7 @@ use Rattle.validators.specs.declared.StoredCdw.{StoredCdw}
 use Rattle.cdp_running.specs.declared.StoredIhw.{StoredIhw}
 use Rattle.cdp_running.specs.declared.Frame.{Frame}
 use Rattle.cdp_running.specs.declared.Tracker.{Tracker}
-use Rattle.cdp_running.specs.Tracker.{Good, GoodSettings, GoodIhw, GoodTdh, GoodInternal, GoodCdw, GoodFrame, settingsOf, startOf, noPacket, inRange, maxWords, mostPosition, afterIhw}
+use Rattle.cdp_running.specs.Tracker.{Good, GoodSettings, GoodIhw, GoodTdh, GoodInternal, GoodCdw, GoodFrame, settingsOf, startOf, noPacket, inRange, maxWords, mostPosition, pastIhw}
 use Rattle.tracker_array.specs.Read.{Sized, settingsGood, ihwGood, tdhGood, internalGood, cdwGood, frameGood, present, packetBlank, blank, isGood}
 use Rattle.tracker_array.proofs.State.{starts}
 
@@ -67,23 +67,23 @@ good-ihw i g = all (lt-ltb _ _ (g .lanes)) (either (i .stored) _ (λ p. eq-eqb _
 
 tdh-good : (h : StoredTdh) → tdhGood h ≡ true → (h .orbit < 2 ^ 32) × GoodTdh h
 tdh-good h e =
-    let t = both (ltb (h .kind) (2 ^ 12)) _ e in
+    let t = both (ltb (h .trigger) (2 ^ 12)) _ e in
     let u = both (ltb (h .bc) (2 ^ 12)) _ (t .1) in
     let v = both (ltb (h .orbit) (2 ^ 32)) _ (u .1) in
-    (ltb-true _ _ (v .0), record { kind = ltb-true _ _ (t .0); bc = ltb-true _ _ (u .0); absent = λ p. none p (other (h .stored) _ (v .1) p) })
+    (ltb-true _ _ (v .0), record { trigger = ltb-true _ _ (t .0); bc = ltb-true _ _ (u .0); absent = λ p. none p (other (h .stored) _ (v .1) p) })
   where
-    none : h .stored ≡ false → (eqb (h .kind) 0 && (eqb (h .bc) 0 && eqb (h .orbit) 0)) ≡ true → h ≡ record { stored = false; kind = 0; bc = 0; orbit = 0 }
+    none : h .stored ≡ false → (eqb (h .trigger) 0 && (eqb (h .bc) 0 && eqb (h .orbit) 0)) ≡ true → h ≡ record { stored = false; trigger = 0; bc = 0; orbit = 0 }
     none p q =
-        let k = both (eqb (h .kind) 0) _ q in
+        let k = both (eqb (h .trigger) 0) _ q in
         let b = both (eqb (h .bc) 0) _ (k .1) in
-        let kind = eqb-true (h .kind) 0 (k .0) in
+        let trigger = eqb-true (h .trigger) 0 (k .0) in
         let bc = eqb-true (h .bc) 0 (b .0) in
         let orbit = eqb-true (h .orbit) 0 (b .1) in
-        λ j. record { stored = p j; kind = kind j; bc = bc j; orbit = orbit j }
+        λ j. record { stored = p j; trigger = trigger j; bc = bc j; orbit = orbit j }
 
 good-tdh : (h : StoredTdh) → h .orbit < 2 ^ 32 → GoodTdh h → tdhGood h ≡ true
 good-tdh h o g =
-    all (lt-ltb _ _ (g .kind)) (all (lt-ltb _ _ (g .bc)) (all (lt-ltb _ _ o) (either (h .stored) _ (λ p. ap (λ (x : StoredTdh). eqb (x .kind) 0 && (eqb (x .bc) 0 && eqb (x .orbit) 0)) (g .absent p)))))
+    all (lt-ltb _ _ (g .trigger)) (all (lt-ltb _ _ (g .bc)) (all (lt-ltb _ _ o) (either (h .stored) _ (λ p. ap (λ (x : StoredTdh). eqb (x .trigger) 0 && (eqb (x .bc) 0 && eqb (x .orbit) 0)) (g .absent p)))))
 
 internal-good : (i : InternalTdh) → internalGood i ≡ true → GoodInternal i
 internal-good i e =
@@ -175,7 +175,7 @@ tests-good t h =
     let h = both (cdwGood (t .cdw)) _ (g .1) in
     let i = both (frameGood (t .settings .frames) (t .frame)) _ (h .1) in
     let k = both (present (t .fsm .state) (t .ihw) (t .tdh)) _ (i .1) in
-    let p = both (not (afterIhw (t .fsm .state)) || t .ihw .stored) _ (k .0) in
+    let p = both (not (pastIhw (t .fsm .state)) || t .ihw .stored) _ (k .0) in
     let settings = settings-good (t .settings) (a .0) in
     let tdh = tdh-good (t .tdh) (f .0) in
     let ihw = ihw-good (t .ihw) (d .0) in

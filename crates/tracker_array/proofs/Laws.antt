@@ -157,7 +157,7 @@ passed-fits a p =
     let b = leb-true (place a 9) 4095 (bc .0) in
     let c = g .0 .count in
     let l = g .0 .ihw .lanes in
-    let k = g .0 .tdh .kind in
+    let k = g .0 .tdh .trigger in
     let h = g .0 .tdh .bc in
     let n = g .0 .internal .bc in
     record {
@@ -171,7 +171,7 @@ passed-fits a p =
       format = either (stop .1);
       count = omega arith;
       lanes = omega arith;
-      tdh-kind = omega arith;
+      tdh-trigger = omega arith;
       tdh-bc = omega arith;
       tdh-orbit = g .1 .orbit;
       internal-bc = omega arith;

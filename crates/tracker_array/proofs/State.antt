@@ -8,7 +8,7 @@ use lib.Dec.{eqb}
 use borrow.Author.Tests.{eqb-true, eqb-false, ne-eqb}
 use Rattle.payload_fsm.specs.declared.State.{State}
 use Rattle.payload_fsm.specs.declared.State.the-variants as S
-use Rattle.cdp_running.specs.Tracker.{afterIhw, afterTdh}
+use Rattle.cdp_running.specs.Tracker.{pastIhw, pastTdh}
 use Rattle.tracker_array.specs.Array.{stateNumber}
 use Rattle.tracker_array.specs.Read.{stateOf, inStart}
 
@@ -32,16 +32,16 @@ module _ (n : ℕ) where
       → P (stateOf n) ≡ cond (eqb n 0) (P S.Ihw) (cond (eqb n 1) (P S.Tdh) later)
   split P = by-tests P (eqb n 0) (eqb n 1) (eqb n 2) (eqb n 3) (eqb n 4) (eqb n 5)
 
-  pub after-ihw : not (eqb n 0) ≡ afterIhw (stateOf n)
-  after-ihw = at (eqb n 0) (eqb n 1) ∙ sym (split afterIhw true refl refl refl refl refl)
+  pub past-ihw : not (eqb n 0) ≡ pastIhw (stateOf n)
+  past-ihw = at (eqb n 0) (eqb n 1) ∙ sym (split pastIhw true refl refl refl refl refl)
     where
       at : (a b : Bool) → not a ≡ cond a false (cond b true true)
       at true b = refl
       at false true = refl
       at false false = refl
 
-  pub after-tdh : (not (eqb n 0) && not (eqb n 1)) ≡ afterTdh (stateOf n)
-  after-tdh = at (eqb n 0) (eqb n 1) ∙ sym (split afterTdh true refl refl refl refl refl)
+  pub past-tdh : (not (eqb n 0) && not (eqb n 1)) ≡ pastTdh (stateOf n)
+  past-tdh = at (eqb n 0) (eqb n 1) ∙ sym (split pastTdh true refl refl refl refl refl)
     where
       at : (a b : Bool) → (not a && not b) ≡ cond a false (cond b false true)
       at true b = refl

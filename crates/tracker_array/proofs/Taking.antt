@@ -11,7 +11,7 @@ use lib.ListN.{length}
 use borrow.Author.Tests.{eqb-true, ltb-true, eq-eqb, ne-eqb, le-leb}
 use Rattle.payload_fsm.specs.declared.State.{State}
 use Rattle.payload_fsm.specs.declared.State.the-variants as S
-use Rattle.cdp_running.specs.Tracker.{inRange, maxWords, afterIhw, afterTdh}
+use Rattle.cdp_running.specs.Tracker.{inRange, maxWords, pastIhw, pastTdh}
 use Rattle.tracker_array.specs.declared.Decoded.the-variants.{Is}
 use Rattle.tracker_array.specs.Read.{place, isOn, stateOf, settingsIn, packetIn, internalIn, cdwIn, frameIn, trackerIn, inForm, settingsGood, internalGood, cdwGood, frameGood, isGood, isTracker, decodeOf}
 use Rattle.tracker_array.specs.Taking.{taking, takesData, takingGood, Fits}
@@ -40,7 +40,7 @@ module _ (a : List ℕ) where
       let t = both (isOn (place a 5)) _ e in
       let u = both (eqb (place a 13) 2 || eqb (place a 13) 3) _ (t .1) in
       let low = ltb-true (place a 14) maxWords (u .1) in
-      simp (t .0, among afterIhw (place a 13) refl refl (u .0), among afterTdh (place a 13) refl refl (u .0), le-leb (place a 14) maxWords (omega arith))
+      simp (t .0, among pastIhw (place a 13) refl refl (u .0), among pastTdh (place a 13) refl refl (u .0), le-leb (place a 14) maxWords (omega arith))
       (rearranged (isOn (place a 16)) (isOn (place a 18)) (settingsGood (settingsIn a)) (inRange (packetIn a)) (ltb (place a 17) (2 ^ 28)) (eqb (place a 17) 0)
       (ltb (place a 19) (2 ^ 12)) (ltb (place a 20) (2 ^ 12)) (ltb (place a 21) (2 ^ 32)) (eqb (place a 19) 0 && (eqb (place a 20) 0 && eqb (place a 21) 0))
       (internalGood (internalIn a)) (cdwGood (cdwIn a)) (frameGood (isOn (place a 2)) (frameIn a)))

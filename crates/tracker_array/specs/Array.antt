@@ -50,7 +50,7 @@ ihwNumbers i = flag (i .stored) ∷ i .lanes ∷ []
 
 -- 18 to 21
 abbrev pub tdhNumbers : StoredTdh → List ℕ
-tdhNumbers h = flag (h .stored) ∷ h .kind ∷ h .bc ∷ h .orbit ∷ []
+tdhNumbers h = flag (h .stored) ∷ h .trigger ∷ h .bc ∷ h .orbit ∷ []
 
 -- 22, 23
 abbrev pub internalNumbers : InternalTdh → List ℕ

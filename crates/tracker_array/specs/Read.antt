@@ -15,7 +15,7 @@ use Rattle.validators.specs.declared.StoredCdw.{StoredCdw}
 use Rattle.cdp_running.specs.declared.StoredIhw.{StoredIhw}
 use Rattle.cdp_running.specs.declared.Frame.{Frame}
 use Rattle.cdp_running.specs.declared.Tracker.{Tracker}
-use Rattle.cdp_running.specs.Tracker.{inRange, maxWords, mostPosition, afterIhw, afterTdh}
+use Rattle.cdp_running.specs.Tracker.{inRange, maxWords, mostPosition, pastIhw, pastTdh}
 use Rattle.tracker_array.specs.declared.Decoded.{Decoded}
 use Rattle.tracker_array.specs.declared.Decoded.the-variants.{Is, Not}
 use Rattle.tracker_array.specs.Array.{size, mark}
@@ -55,7 +55,7 @@ abbrev pub ihwIn : List ℕ → StoredIhw
 ihwIn a = record { stored = isOn (place a 16); lanes = place a 17 }
 
 abbrev pub tdhIn : List ℕ → StoredTdh
-tdhIn a = record { stored = isOn (place a 18); kind = place a 19; bc = place a 20; orbit = place a 21 }
+tdhIn a = record { stored = isOn (place a 18); trigger = place a 19; bc = place a 20; orbit = place a 21 }
 
 abbrev pub internalIn : List ℕ → InternalTdh
 internalIn a = record { stored = isOn (place a 22); bc = place a 23 }
@@ -113,9 +113,9 @@ ihwGood i = ltb (i .lanes) (2 ^ 28) && (i .stored || eqb (i .lanes) 0)
 
 abbrev pub tdhGood : StoredTdh → Bool
 tdhGood h =
-    ltb (h .kind) (2 ^ 12)
+    ltb (h .trigger) (2 ^ 12)
     && (ltb (h .bc) (2 ^ 12)
-    && (ltb (h .orbit) (2 ^ 32) && (h .stored || (eqb (h .kind) 0 && (eqb (h .bc) 0 && eqb (h .orbit) 0)))))
+    && (ltb (h .orbit) (2 ^ 32) && (h .stored || (eqb (h .trigger) 0 && (eqb (h .bc) 0 && eqb (h .orbit) 0)))))
 
 abbrev pub internalGood : InternalTdh → Bool
 internalGood i = ltb (i .bc) (2 ^ 12) && (i .stored || eqb (i .bc) 0)
@@ -128,7 +128,7 @@ frameGood frames f = leb (f .start) mostPosition && ((f .live || eqb (f .start) 
 
 -- An IHW is stored outside the start state, and a TDH wherever a previous one is read.
 abbrev pub present : State → StoredIhw → StoredTdh → Bool
-present s i h = (not (afterIhw s) || i .stored) && (not (afterTdh s) || h .stored)
+present s i h = (not (pastIhw s) || i .stored) && (not (pastTdh s) || h .stored)
 
 -- No packet, and the rest as the start gave it, but for the settings.
 abbrev pub packetBlank : Packet → Bool

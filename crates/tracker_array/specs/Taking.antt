@@ -38,7 +38,7 @@ pub record Fits (a : List ℕ) : Type 0 where
   pub format : place a 12 < 2 ^ 8
   pub count : place a 14 < 2 ^ 16
   pub lanes : place a 17 < 2 ^ 32
-  pub tdh-kind : place a 19 < 2 ^ 16
+  pub tdh-trigger : place a 19 < 2 ^ 16
   pub tdh-bc : place a 20 < 2 ^ 16
   pub tdh-orbit : place a 21 < 2 ^ 32
   pub internal-bc : place a 23 < 2 ^ 16

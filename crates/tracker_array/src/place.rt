@@ -35,7 +35,7 @@ pub const LANES: usize = 17;
 
 pub const TDH: usize = 18;
 
-pub const TDH_KIND: usize = 19;
+pub const TDH_TRIGGER: usize = 19;
 
 pub const TDH_BC: usize = 20;
 

@@ -71,7 +71,7 @@ fn tdh(a: &[u64]) -> StoredTdh
 {
     StoredTdh {
         stored: a[place::TDH] == 1,
-        kind: a[place::TDH_KIND] as u16,
+        trigger: a[place::TDH_TRIGGER] as u16,
         bc: a[place::TDH_BC] as u16,
         orbit: a[place::TDH_ORBIT] as u32,
     }

@@ -4,7 +4,7 @@ ghost use mathlib.Core.Bool.{_&&_};
 ghost use Prim.Native.Nat.{_^_};
 ghost use lib.Dec.{ltb};
 ghost use lib.ListN.{length};
-ghost use Rattle.cdp_running.specs.Tracker.{inRange, afterIhw, afterTdh};
+ghost use Rattle.cdp_running.specs.Tracker.{inRange, pastIhw, pastTdh};
 ghost use Rattle.tracker_array.specs.Array.{size};
 ghost use Rattle.tracker_array.specs.Read.{stateOf, settingsIn, packetIn, ihwIn, tdhIn, internalIn, cdwIn, frameIn, trackerIn, flagsFit, unused, inForm, settingsGood, ihwGood, tdhGood, internalGood, cdwGood, frameGood, present, packetBlank, inStart, blank, isGood, place, isOn};
 ghost use Rattle.tracker_array.specs.Taking.{taking, takingGood};
@@ -77,13 +77,13 @@ fn tdh(a: &[u64]) -> bool
     requires { ⌜ length (now a) ≡ size ⌝ }
     ensures { λ r. ⌜ r ≡ tdhGood (tdhIn (now (a .entry))) ⌝ }
 {
-    let kind = a[place::TDH_KIND];
+    let trigger = a[place::TDH_TRIGGER];
     let bc = a[place::TDH_BC];
     let orbit = a[place::TDH_ORBIT];
-    (kind < 0x1000)
+    (trigger < 0x1000)
         & ((bc < 0x1000)
             & ((orbit < 0x1_0000_0000)
-                & ((a[place::TDH] == 1) | ((kind == 0) & ((bc == 0) & (orbit == 0))))))
+                & ((a[place::TDH] == 1) | ((trigger == 0) & ((bc == 0) & (orbit == 0))))))
 }
 
 fn internal(a: &[u64]) -> bool
@@ -112,14 +112,14 @@ fn frame(a: &[u64]) -> bool
 }
 
 // The states outside the start state, and those after a TDH.
-fn after_ihw(state: u64) -> bool
-    ensures { λ r. ⌜ r ≡ afterIhw (stateOf state) ⌝ }
+fn past_ihw(state: u64) -> bool
+    ensures { λ r. ⌜ r ≡ pastIhw (stateOf state) ⌝ }
 {
     state != 0
 }
 
-fn after_tdh(state: u64) -> bool
-    ensures { λ r. ⌜ r ≡ afterTdh (stateOf state) ⌝ }
+fn past_tdh(state: u64) -> bool
+    ensures { λ r. ⌜ r ≡ pastTdh (stateOf state) ⌝ }
 {
     (state != 0) & (state != 1)
 }
@@ -136,7 +136,7 @@ fn present(a: &[u64]) -> bool
     ensures { λ r. ⌜ r ≡ present (trackerIn (now (a .entry)) .fsm .state) (ihwIn (now (a .entry))) (tdhIn (now (a .entry))) ⌝ }
 {
     let state = a[place::STATE];
-    (!after_ihw(state) | (a[place::IHW] == 1)) & (!after_tdh(state) | (a[place::TDH] == 1))
+    (!past_ihw(state) | (a[place::IHW] == 1)) & (!past_tdh(state) | (a[place::TDH] == 1))
 }
 
 fn packet_blank(a: &[u64]) -> bool
@@ -205,7 +205,7 @@ fn tdh_there(a: &[u64]) -> bool
     ensures { λ r. ⌜ r ≡ (isOn (place (now (a .entry)) 18) && (ltb (place (now (a .entry)) 19) (2 ^ 12) && (ltb (place (now (a .entry)) 20) (2 ^ 12) && ltb (place (now (a .entry)) 21) (2 ^ 32)))) ⌝ }
 {
     (a[place::TDH] == 1)
-        & ((a[place::TDH_KIND] < 0x1000)
+        & ((a[place::TDH_TRIGGER] < 0x1000)
             & ((a[place::TDH_BC] < 0x1000) & (a[place::TDH_ORBIT] < 0x1_0000_0000)))
 }
 

@@ -74,7 +74,7 @@ fn tdh(h: StoredTdh, a: &mut [u64])
     ensures { λ _. ⌜ now (a .exit) ≡ sets (now (a .entry)) 18 (tdhNumbers h) ⌝ }
 {
     a[place::TDH] = flag(h.stored);
-    a[place::TDH_KIND] = h.kind as u64;
+    a[place::TDH_TRIGGER] = h.trigger as u64;
     a[place::TDH_BC] = h.bc as u64;
     a[place::TDH_ORBIT] = h.orbit as u64;
 }

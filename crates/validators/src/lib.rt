@@ -27,7 +27,7 @@ pub struct Packet {
 // Of the TDH stored last, what is read again.
 pub struct StoredTdh {
     pub stored: bool,
-    pub kind: u16,
+    pub trigger: u16,
     pub bc: u16,
     pub orbit: u32,
 }

@@ -18,7 +18,7 @@ returns c =
     record {
       fits = omega (arith, q .fits, c .before .before .least .ensures);
       room = omega (arith, q .fits, c .before .before .least .ensures);
-      among = λ _. sym (c .before .before .before .before .in-data .ensures) ∙ c .before .before .before .if1 .taken;
+      among = λ _. sym (c .before .before .before .before .among-data .ensures) ∙ c .before .before .before .if1 .taken;
       each = λ i h. ap (λ (l : ℕ). quietId l (idAt (now (a .bytes)) (a .at) i)) (sym (c .before .checked-lanes .ensures)) ∙ q .each i h;
     }
 
