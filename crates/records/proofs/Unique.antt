@@ -1,4 +1,5 @@
--- Uniqueness: the contract of `write` determines the answer and the final buffer, also where nothing is written.
+-- Uniqueness: a check of a word says which rows it gives (the contract of every check in validators and tdh_validator), and the contract of `write`
+-- determines the answer and the final buffer, also where nothing is written.
 -- Assumes nothing.
 use mathlib.Core.Path.{_≡_}
 use mathlib.Core.List.{List}
@@ -6,7 +7,10 @@ use Prim.Native.Nat.{ℕ}
 use Rattle.words.proofs.Unique.{unique}
 use Rattle.records.specs.declared.Row.{Row}
 use Rattle.records.specs.declared.Written.{Written}
-use Rattle.records.specs.Records.{WritePost}
+use Rattle.records.specs.Records.{padded, WritePost}
+
+pub rows-unique : (rows : List Row) {first second : List Row} → first ≡ padded rows → second ≡ padded rows → first ≡ second
+rows-unique rows = unique
 
 pub write-unique : {position : ℕ} {rows : List Row} {buffer after after′ : List ℕ} {first second : Written}
     → WritePost position rows buffer first after → WritePost position rows buffer second after′
