@@ -2,9 +2,13 @@
 # make.py: writes the files data/c00, c01 .. and stdout, what the program edges is to print.
 # A case is a rule of document 01, the bytes of a file, and the lines that 01 gives for it, worked out by hand: no program of ours made them.
 # The lines of the last part, which no file can show, stand at the end.
+#
+#     make.py            writes them
+#     make.py --check    exit status 1 where one is not what this script makes
 import os
 import re
 import struct
+import sys
 
 HERE = os.path.dirname(os.path.abspath(__file__))
 
@@ -179,17 +183,24 @@ def main():
     source = open(os.path.join(HERE, "src/main.rt")).read()
     told = int(re.search(r"const FILES: u8 = (\d+);", source).group(1))
     assert told == len(CASES), "src/main.rt opens %d files, and there are %d cases" % (told, len(CASES))
-    os.makedirs(os.path.join(HERE, "data"), exist_ok=True)
-    for name in os.listdir(os.path.join(HERE, "data")):
-        os.remove(os.path.join(HERE, "data", name))
-    out = ""
-    for i, (_, content, lines) in enumerate(CASES):
-        name = "c%02d" % i
-        with open(os.path.join(HERE, "data", name), "wb") as f:
+    made = {"data/c%02d" % i: content for i, (_, content, _) in enumerate(CASES)}
+    made["stdout"] = ("".join("c%02d\n%s" % (i, lines) for i, (_, _, lines) in enumerate(CASES)) + CALLS).encode()
+    there = {"data/" + name for name in os.listdir(os.path.join(HERE, "data"))}
+    if sys.argv[1:] == ["--check"]:
+        wrong = sorted(there - set(made)) + [n for n, content in made.items() if read(n) != content]
+        for name in wrong:
+            print("edges: %s is not what make.py makes" % name)
+        sys.exit(1 if wrong else 0)
+    for name in there - set(made):
+        os.remove(os.path.join(HERE, name))
+    for name, content in made.items():
+        with open(os.path.join(HERE, name), "wb") as f:
             f.write(content)
-        out += name + "\n" + lines
-    with open(os.path.join(HERE, "stdout"), "w") as f:
-        f.write(out + CALLS)
+
+
+def read(name):
+    path = os.path.join(HERE, name)
+    return open(path, "rb").read() if os.path.exists(path) else None
 
 
 assert whole() == WHOLE_CASE
