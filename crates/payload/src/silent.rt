@@ -14,7 +14,8 @@ use payload_fsm::Advanced;
 use payload_fsm::ItsPayloadWord;
 use words::Word;
 
-// Whether a word that is taken as `a` says gives no record: of its rows only the conditions are asked.
+// Whether a word that is taken as `a` says gives no record: of its rows only the conditions are asked. The choice by kind stands here once more, so
+// that it is inlined and no row is made (docs/PERFORMANCE.md).
 fn is_silent(t: Tracker, a: Advanced, word: Word) -> bool
     ensures { λ r. ⌜ r ≡ silent (rowsOf t a word) ⌝ }
 {
