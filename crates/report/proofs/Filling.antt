@@ -1,7 +1,7 @@
 -- The loop of `fill`, over lists alone: what was printed, before what is still printed into the room that is left.
 -- Assumes nothing.
 use Prim.Native.Nat.{ℕ, zero, suc, _+_, _-_, _≤_, _<_}
-use mathlib.Core.Path.{_≡_, refl, sym, ap, subst, _∙_}
+use mathlib.Core.Path.{_≡_, refl, sym, ap, _∙_}
 use mathlib.Core.Bool.{true, false}
 use mathlib.Core.List.{List, [], _++_, append-nil, append-assoc}
 use native.Mathlib.Nat.{sub-zero}
@@ -11,28 +11,16 @@ use borrow.Rule.Slice.PartMut.{putMid, midOf}
 use lib.ListN.{length, length-append, length-drop}
 use Rattle.records.specs.Records.{over}
 use Rattle.records.proofs.Buffer.{mid-tail, lent-on, length-over, over-fits}
-use Rattle.report.specs.declared.Stage.{Stage}
-use Rattle.report.specs.declared.Stage.the-variants as S
 use Rattle.report.specs.declared.Report.{Report}
 use Rattle.report.specs.declared.Filled.{Filled}
 use Rattle.report.specs.Text.{mostPrinted}
-use Rattle.report.specs.Report.{Printed, nothing, before, toCome, stepOf, stepsAt, stepsLeft, fillFrom, fillOf, isDone, filledOf, Prints, GoodReport, FillPost}
-use Rattle.report.proofs.Keeping.{good-step, step-less}
+use Rattle.report.specs.Report.{nothing, before, stepOf, stepsLeft, fillFrom, fillOf, isDone, Prints, GoodReport, FillPost}
+use Rattle.report.proofs.Keeping.{step, step-less, done-left}
 
 -- Of a report that is done, and in too little room, nothing is printed.
-none-left : (file : List ℕ) (r : Report) → isDone (r .stage) ≡ true → stepsLeft file r ≡ 0
-unfolding stepsLeft
-none-left file r e = at (r .stage) e
-  where
-    at : (s : Stage) → isDone s ≡ true → stepsAt (length (toCome file r)) s ≡ 0
-    at S.Heading h = cc
-    at S.Items h = cc
-    at (S.Refused n) h = cc
-    at S.Done h = refl
-
 pub done-fill : (file : List ℕ) (r : Report) (room : ℕ) → isDone (r .stage) ≡ true → fillOf file r room ≡ nothing r
 unfolding fillFrom
-done-fill file r room e = ap (λ (n : ℕ). fillFrom n file r room) (none-left file r e)
+done-fill file r room e = ap (λ (n : ℕ). fillFrom n file r room) (done-left file r e)
 
 small-from : (n : ℕ) (file : List ℕ) (r : Report) (room : ℕ) → room < mostPrinted → fillFrom n file r room ≡ nothing r
 unfolding fillFrom
@@ -69,20 +57,16 @@ module _ {file : List ℕ} {r : Report} {out₀ out : List ℕ} {cur : Report} {
   pub used-low : used ≤ length out
   used-low =
       let fits = over-fits (f .printed) out₀ (sym (ap length (f .buffer-is)) ∙ f .same) in
-      omega (arith, f .used-is, f .same, fits)
+      omega arith
 
   -- Where nothing more is printed.
   met : fillOf file cur (length out₀ - used) ≡ nothing cur → FillPost file r out₀ (record { report = cur; n = used }) out
   met stops =
-      let all : fillOf file r (length out₀) ≡ before (record { report = cur; text = f .printed }) (nothing cur) =
-      f .comes ∙ ap (before (record { report = cur; text = f .printed })) stops in
-      let text : f .printed ++ [] ≡ f .printed = append-nil (f .printed) in
-      let long : used ≡ length (f .printed ++ []) = f .used-is ∙ sym (ap length text) in
       record {
         prints =
             record {
-              answer = (λ i. record { report = cur; n = long i }) ∙ sym (ap filledOf all);
-              buffer-is = f .buffer-is ∙ sym (ap (λ (p : Printed). over (p .text) out₀) all ∙ ap (λ (l : List ℕ). over l out₀) text);
+              answer = rw (f .comes, stops, append-nil, f .used-is);
+              buffer-is = rw (f .comes, stops, append-nil) (f .buffer-is);
             };
         good = f .good;
       }
@@ -91,7 +75,7 @@ module _ {file : List ℕ} {r : Report} {out₀ out : List ℕ} {cur : Report} {
   ended e = met (done-fill file cur (length out₀ - used) e)
 
   pub filled : length out - used < mostPrinted → FillPost file r out₀ (record { report = cur; n = used }) out
-  filled h = met (small-from (stepsLeft file cur) file cur (length out₀ - used) (omega (arith, f .same)))
+  filled h = met (small-from (stepsLeft file cur) file cur (length out₀ - used) (omega arith))
 
   module _ (going : isDone (cur .stage) ≡ false) (room : mostPrinted ≤ length out - used) {p : Filled} {y : List ℕ}
       (s : Prints (stepOf file cur) (midOf used (length out - used) out) p y) (kept : length y ≡ length (midOf used (length out - used) out)) where
@@ -100,33 +84,22 @@ module _ {file : List ℕ} {r : Report} {out₀ out : List ℕ} {cur : Report} {
     step-long =
         let fits = over-fits (stepOf file cur .text) (midOf used (length out - used) out) (sym (ap length (s .buffer-is)) ∙ kept) in
         let tail = ap length (mid-tail used out) in
-        omega (arith, ap (λ (x : Filled). x .n) (s .answer), used-low, tail, length-drop used out)
+        rw (s .answer) (omega (arith, used-low, length-drop used out))
 
     pub next : Filling file r out₀ (putMid used (length out - used) out y) (p .report) (used + p .n)
     next =
         let here = stepOf file cur in
-        let report-is : here .report ≡ p .report = sym (ap (λ (x : Filled). x .report) (s .answer)) in
-        let n-is : length (here .text) ≡ p .n = sym (ap (λ (x : Filled). x .n) (s .answer)) in
-        let room-is : length out₀ - used - length (here .text) ≡ length out₀ - (used + p .n) = omega arith in
+        let room-is : length out₀ - used - length (here .text) ≡ length out₀ - (used + length (here .text)) = omega arith in
         let is = lent-on used (f .printed) (here .text) out₀ out y (f .used-is) (f .buffer-is) (s .buffer-is) in
-        let long = length-append (f .printed) (here .text) in
+        let long : used + p .n ≡ length (f .printed ++ here .text) = rw (s .answer, length-append) (omega arith) in
         record {
           printed = f .printed ++ here .text;
-          used-is = omega (arith, f .used-is, n-is, long);
+          used-is = long;
           buffer-is = is;
-          same = ap length is ∙ length-over (f .printed ++ here .text) out₀ (omega (arith, long, f .used-is, n-is, step-long, f .same));
-          good = subst (GoodReport file) report-is (good-step file cur (f .good));
-          comes =
-              f .comes
-              ∙ ap (before (record { report = cur; text = f .printed })) (step-fill file cur (length out₀ - used) (f .good) going (omega (arith, f .same)))
-              ∙ (λ i. record {
-                report = fillOf file (here .report) (length out₀ - used - length (here .text)) .report;
-                text = sym (append-assoc (f .printed) (here .text) (fillOf file (here .report) (length out₀ - used - length (here .text)) .text)) i;
-              })
-              ∙ (λ i. before (record { report = report-is i; text = f .printed ++ here .text }) (fillOf file (report-is i) (room-is i)));
+          same = ap length is ∙ length-over (f .printed ++ here .text) out₀ (omega (arith, step-long));
+          good = rw (s .answer) (step file cur (f .good) .good);
+          comes = rw (f .comes, step-fill file cur (length out₀ - used) (f .good) going (omega arith), s .answer, room-is, append-assoc);
         }
 
     pub less : stepsLeft file (p .report) < stepsLeft file cur
-    less =
-        let report-is : p .report ≡ stepOf file cur .report = ap (λ (x : Filled). x .report) (s .answer) in
-        omega (arith, step-less file cur (f .good) going, ap (stepsLeft file) report-is)
+    less = rw (s .answer) (omega (arith, step-less file cur (f .good) going))

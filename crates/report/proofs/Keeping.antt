@@ -1,20 +1,17 @@
--- The invariant of a report holds after every step, and each step leaves one step less.
+-- What a step of a report does: it keeps the invariant, prints the front of what is still to be printed, and leaves one step less.
 -- Assumes nothing.
-use Prim.Native.Nat.{ℕ, suc, _+_, _-_, _≤_}
-use mathlib.Core.Path.{_≡_, refl, sym, ap, subst}
+use Prim.Native.Nat.{ℕ, suc, _+_, _≤_}
+use mathlib.Core.Path.{_≡_, refl, sym, ap}
 use mathlib.Core.Bool.{Bool, true, false, cond, true≢false}
-use mathlib.Core.List.{List}
+use mathlib.Core.List.{List, [], _++_, append-nil, append-assoc}
+use native.Mathlib.Nat.{add-zero, add-assoc}
 use native.Mathlib.Omega.{arith}
-use lib.ListN.{length}
-use Rattle.words.specs.declared.Word.{Word}
+use lib.ListN.{length, length-append}
 use Rattle.words.specs.Word.{wordOf}
-use Rattle.payload_fsm.specs.declared.ItsPayloadWord.{ItsPayloadWord}
 use Rattle.records.specs.Records.{Record}
 use Rattle.validators.specs.declared.Packet.{Packet}
 use Rattle.cdp_running.specs.declared.Tracker.{Tracker}
-use Rattle.cdp_running.specs.declared.PacketAnswer.{PacketAnswer}
-use Rattle.cdp_running.specs.declared.FrameTold.{FrameTold}
-use Rattle.cdp_running.specs.Tracker.{Good, inRange, acceptOf, packetCall}
+use Rattle.cdp_running.specs.Tracker.{Good, inRange, packetCall}
 use Rattle.cdp_running.specs.Word.{recordsOf, Outcome, taken, refused, takenOf, wordCall, answerOf, recordsIn}
 use Rattle.cdp_running.proofs.Good.{good-accept, good-next}
 use Rattle.cdp_running.proofs.Outcome.{taken-admitted, taken-is, next-is}
@@ -27,92 +24,110 @@ use Rattle.bench_file.proofs.Reading.{sound, packet-given, word-given, end-give
 use Rattle.report.specs.declared.Stage.{Stage}
 use Rattle.report.specs.declared.Stage.the-variants as S
 use Rattle.report.specs.declared.Report.{Report}
-use Rattle.report.specs.Report.{toCome, itemStep, stageStep, stepOf, stepsAt, stepsLeft, isDone, reading, GoodReading, GoodReport}
-
-clash : {A : Type 0} → true ≡ false → A
-clash e = absurd (true≢false e)
+use Rattle.report.specs.Text.{lines, heading, recordsLine, refusedLine}
+use Rattle.report.specs.File.{recordsFrom}
+use Rattle.report.specs.Report.{toCome, Printed, atStage, itemStep, stepOf, stepsLeft, isDone, GoodReading, GoodReport}
+use Rattle.report.proofs.Lines.{lines-append}
 
 -- A packet call and a word call keep the tracker good, and a word gives at most six records.
 good-packet : (t : Tracker) (p : Packet) → Good t → Good (packetCall t p .tracker)
 unfolding packetCall
 good-packet t p g = at (inRange p) refl
   where
-    at : (b : Bool) → inRange p ≡ b → Good (cond {A = PacketAnswer} b (record { tracker = acceptOf t p; refusal = 0 }) (record { tracker = t; refusal = 5 }) .tracker)
-    at true e = good-accept t p g e
-    at false e = g
+    at : (b : Bool) → inRange p ≡ b → Good (packetCall t p .tracker)
+    at true e = simp e (good-accept t p g e)
+    at false e = simp e g
 
-good-word : (t : Tracker) (bytes : List ℕ) (places : ℕ) → Good t → Good (answerOf t (wordCall t bytes places) .tracker)
-good-word t bytes places g = at (wordCall t bytes places) refl
-  where
-    at : (o : Outcome) → wordCall t bytes places ≡ o → Good (answerOf t o .tracker)
-    at (taken next kind guessed records frame lanes) e =
-        let a = taken-admitted t bytes places e in
-        subst Good (sym (next-is t bytes places e)) (good-next t (wordOf bytes) g (a .accepted) (a .low))
-    at (refused n) e = g
-
-few-records : (t : Tracker) (bytes : List ℕ) (places : ℕ) → length (recordsIn (wordCall t bytes places)) ≤ 6
+good-word : (t : Tracker) (bytes : List ℕ) → Good t → Good (answerOf t (wordCall t bytes 6) .tracker) × (length (recordsIn (wordCall t bytes 6)) ≤ 6)
 unfolding takenOf
-few-records t bytes places = at (wordCall t bytes places) refl
+good-word t bytes g = at (wordCall t bytes 6) refl
   where
-    records-of : {n n′ : Tracker} {k k′ : ItsPayloadWord} {g g′ : Bool} {r r′ : List Record} {f f′ : FrameTold} {l l′ : ℕ} → taken n k g r f l ≡ taken n′ k′ g′ r′ f′ l′ → r ≡ r′
-    records-of q = cc
-
-    at : (o : Outcome) → wordCall t bytes places ≡ o → length (recordsIn o) ≤ 6
+    at : (o : Outcome) → wordCall t bytes 6 ≡ o → Good (answerOf t o .tracker) × (length (recordsIn o) ≤ 6)
     at (taken next kind guessed records frame lanes) e =
-        let same : recordsOf t (wordOf bytes) ≡ records = records-of (taken-is t bytes places e) in
-        omega (arith, ap length same, at-most-six t (wordOf bytes))
-    at (refused n) e = omega arith
+        let a = taken-admitted t bytes 6 e in
+        let same : recordsOf t (wordOf bytes) ≡ records = cc (taken-is t bytes 6 e) in
+        (rw (next-is t bytes 6 e) (good-next t (wordOf bytes) g (a .accepted) (a .low)), omega (arith, ap length same, at-most-six t (wordOf bytes)))
+    at (refused n) e = (g, omega arith)
 
-module _ (file : List ℕ) (r : Report) (g : GoodReport file r) where
+-- The text that is still to be printed.
+abbrev linesOf : List Record → ℕ → List ℕ
+linesOf rs count = lines rs ++ recordsLine (count + length rs)
+
+abbrev restAt : List ℕ → Report → Stage → List ℕ
+restAt file r S.Heading = heading ++ linesOf (recordsFrom (r .tracker) (toCome file r)) (r .count)
+restAt file r S.Items = linesOf (recordsFrom (r .tracker) (toCome file r)) (r .count)
+restAt file r (S.Refused n) = refusedLine n
+restAt file r S.Done = []
+
+unfoldable pub restOf : List ℕ → Report → List ℕ
+restOf file r = restAt file r (r .stage)
+
+-- What a text and the report after it are to the report before it: a step less is left, but where all was done.
+pub record Moves (file : List ℕ) (r : Report) (p : Printed) : Type 0 where
+  pub good : GoodReport file (p .report)
+  pub rest : p .text ++ restOf file (p .report) ≡ restOf file r
+  pub steps : stepsLeft file r ≡ cond (isDone (r .stage)) 0 1 + stepsLeft file (p .report)
+
+-- There is one stage of a report that is done.
+is-done : (s : Stage) → isDone s ≡ true → s ≡ S.Done
+is-done S.Heading e = cc
+is-done S.Items e = cc
+is-done (S.Refused n) e = cc
+is-done S.Done e = refl
+
+module _ (file : List ℕ) where
+  -- Of a report that is done nothing is asked but a good tracker.
+  all-done : (r : Report) → Good (r .tracker) → GoodReport file (atStage S.Done r)
+  all-done r g = record { tracker = g; going = λ h. absurd (true≢false (sym h)) }
+
   -- The step by what the reader found.
-  good-item : (x : Found) → GoodReading file r → nextOf file (r .packet) (r .word) (r .left) ≡ x → GoodReport file (itemStep file r x .report)
-  good-item (F.Packet p words) reads e =
+  item : (r : Report) → Good (r .tracker) → GoodReading file r → (x : Found) → nextOf file (r .packet) (r .word) (r .left) ≡ x
+      → Moves file (atStage S.Items r) (itemStep file r x)
+  unfolding restOf stepsLeft recordsFrom lines
+  item r g reads (F.Packet p words) e =
       let given = packet-given (sound file (reads .checked)) (reads .place) e in
       record {
-        tracker = good-packet (r .tracker) p (g .tracker);
-        going = λ _. record { checked = reads .checked; place = given .next; count = reads .count };
+        good = record { tracker = good-packet (r .tracker) p g; going = λ _. record { checked = reads .checked; place = given .next; count = reads .count } };
+        rest = rw (given .comes);
+        steps = omega (arith, ap length (given .comes));
       }
-  good-item (F.Word at) reads e =
+  item r g reads (F.Word at) e =
       let given = word-given (sound file (reads .checked)) (reads .place) e in
-      let few = few-records (r .tracker) (bytesAt file at) 6 in
-      let sofar = reads .count in
+      let kept = good-word (r .tracker) (bytesAt file at) g in
       record {
-        tracker = good-word (r .tracker) (bytesAt file at) 6 (g .tracker);
-        going = λ _. record { checked = reads .checked; place = given .next; count = omega arith };
+        good = record { tracker = kept .0; going = λ _. record { checked = reads .checked; place = given .next; count = omega arith } };
+        rest = simp (given .comes, lines-append, length-append, append-assoc, add-assoc);
+        steps = omega (arith, ap length (given .comes));
       }
-  good-item F.End reads e = record { tracker = g .tracker; going = λ h. clash (sym h) }
+  item r g reads F.End e =
+      let none = end-given (sound file (reads .checked)) (reads .place) e in
+      record { good = all-done r g; rest = rw (none, append-nil, add-zero); steps = omega (arith, ap length none) }
 
-  less-item : (x : Found) → GoodReading file r → nextOf file (r .packet) (r .word) (r .left) ≡ x
-      → length (toCome file r) + 1 ≡ suc (stepsLeft file (itemStep file r x .report))
+  -- The step by the stage: every report is one at its own stage.
+  stage : (s : Stage) (r : Report) → GoodReport file (atStage s r) → Moves file (atStage s r) (stepOf file (atStage s r))
+  unfolding restOf stepsLeft stepOf
+  stage S.Heading r g =
+      let reads = g .going refl in
+      record {
+        good = record { tracker = g .tracker; going = λ _. record { checked = reads .checked; place = reads .place; count = reads .count } };
+        rest = refl;
+        steps = omega arith;
+      }
+  stage S.Items r g = item (atStage S.Items r) (g .tracker) (g .going refl) _ refl
+  stage (S.Refused n) r g = record { good = all-done r (g .tracker); rest = append-nil (refusedLine n); steps = refl }
+  stage S.Done r g = record { good = g; rest = refl; steps = refl }
+
+  pub step : (r : Report) → GoodReport file r → Moves file r (stepOf file r)
+  step r g = stage (r .stage) r g
+
+  pub step-less : (r : Report) → GoodReport file r → isDone (r .stage) ≡ false → stepsLeft file r ≡ suc (stepsLeft file (stepOf file r .report))
+  step-less r g e = omega (arith, simp e at (step r g .steps))
+
+  -- A report that is done has no step left, and nothing to print.
+  pub done-left : (r : Report) → isDone (r .stage) ≡ true → stepsLeft file r ≡ 0
   unfolding stepsLeft
-  less-item (F.Packet p words) reads e =
-      let given = packet-given (sound file (reads .checked)) (reads .place) e in
-      omega (arith, ap length (given .comes))
-  less-item (F.Word at) reads e =
-      let given = word-given (sound file (reads .checked)) (reads .place) e in
-      omega (arith, ap length (given .comes))
-  less-item F.End reads e =
-      omega (arith, ap length (end-given (sound file (reads .checked)) (reads .place) e))
+  done-left r e = rw (is-done (r .stage) e)
 
-  good-stage : (s : Stage) → r .stage ≡ s → GoodReport file (stageStep file r s .report)
-  good-stage S.Heading e =
-      let reads = g .going (ap reading e) in
-      record { tracker = g .tracker; going = λ _. record { checked = reads .checked; place = reads .place; count = reads .count } }
-  good-stage S.Items e = good-item (nextOf file (r .packet) (r .word) (r .left)) (g .going (ap reading e)) refl
-  good-stage (S.Refused n) e = record { tracker = g .tracker; going = λ h. clash (sym h) }
-  good-stage S.Done e = g
-
-  less-stage : (s : Stage) → r .stage ≡ s → isDone s ≡ false → stepsAt (length (toCome file r)) s ≡ suc (stepsLeft file (stageStep file r s .report))
-  unfolding stepsLeft
-  less-stage S.Heading e h = omega arith
-  less-stage S.Items e h = less-item (nextOf file (r .packet) (r .word) (r .left)) (g .going (ap reading e)) refl
-  less-stage (S.Refused n) e h = omega arith
-  less-stage S.Done e h = clash h
-
-  pub good-step : GoodReport file (stepOf file r .report)
-  unfolding stepOf
-  good-step = good-stage (r .stage) refl
-
-  pub step-less : isDone (r .stage) ≡ false → stepsLeft file r ≡ suc (stepsLeft file (stepOf file r .report))
-  unfolding stepOf stepsLeft
-  step-less h = less-stage (r .stage) refl h
+  pub done-rest : (r : Report) → isDone (r .stage) ≡ true → restOf file r ≡ []
+  unfolding restOf
+  done-rest r e = rw (is-done (r .stage) e)

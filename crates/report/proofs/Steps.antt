@@ -2,25 +2,26 @@
 -- Assumes nothing.
 use Prim.Native.Nat.{ℕ, _+_, _-_, _^_, _≤_}
 use mathlib.Core.Path.{_≡_, refl, sym, ap, subst, _∙_}
-use mathlib.Core.Bool.{Bool, true, false, cond, true≢false}
+use mathlib.Core.Bool.{Bool, true, false}
 use mathlib.Core.List.{List}
 use native.Mathlib.Omega.{arith}
 use borrow.Author.Tests.{eqb-true}
 use borrow.Rule.Slice.PartMut.{midOf}
 use lib.Dec.{eqb}
-use lib.ListN.{length, drop}
+use lib.ListN.{length}
 use Rattle.records.specs.Records.{flat, room, over}
 use Rattle.records.proofs.Given.{length-flat}
 use Rattle.records.proofs.Buffer.{over-fits}
 use Rattle.cdp_running.specs.declared.Tracker.{Tracker}
 use Rattle.cdp_running.specs.declared.WordAnswer.{WordAnswer}
 use Rattle.cdp_running.specs.Tracker.{Good, startOf}
+use Rattle.cdp_running.proofs.Good as Good
 use Rattle.cdp_running.specs.Word.{Outcome, taken, refused, wordCall, answerOf, recordsIn, WordPost}
 use Rattle.bench_file.specs.declared.Found.the-variants as F
-use Rattle.bench_file.specs.File.{checkOf, bytesAt, wordsBefore}
+use Rattle.bench_file.specs.File.{checkOf, bytesAt}
 use Rattle.bench_file.specs.declared.Found.{Found}
 use Rattle.bench_file.specs.Reader.{nextOf}
-use Rattle.bench_file.proofs.Reading.{sound, reached, word-given}
+use Rattle.bench_file.proofs.Reading.{at-start, sound, reached, word-given}
 use Rattle.report.specs.declared.Stage.{Stage}
 use Rattle.report.specs.declared.Stage.the-variants as S
 use Rattle.report.specs.declared.Report.{Report}
@@ -32,28 +33,27 @@ use Rattle.report.proofs.Lines.{records-written}
 
 -- The start.
 not-refused : (n : ℕ) → reading (firstStage n) ≡ true → n ≡ 0
-not-refused n e = at (eqb n 0) refl e
+not-refused n e = at (eqb n 0) refl
   where
-    at : (b : Bool) → eqb n 0 ≡ b → reading (cond b S.Heading (S.Refused n)) ≡ true → n ≡ 0
-    at true q e = eqb-true n 0 q
-    at false q e = absurd (true≢false (sym e))
+    at : (b : Bool) → eqb n 0 ≡ b → n ≡ 0
+    at true q = eqb-true n 0 q
+    at false q = cc (simp q at e)
 
-pub good-start : (file : List ℕ) → Good (startOf settings) → GoodReport file (startReport file)
-unfolding startReport wordsBefore
-good-start file g =
+pub good-start : (file : List ℕ) → GoodReport file (startReport file)
+unfolding startReport
+good-start file =
     record {
-      tracker = g;
-      going = λ e. record { checked = not-refused (checkOf file) e; place = record { within = omega arith; here = refl }; count = omega arith };
+      tracker = Good.good-start settings;
+      going = λ e. record { checked = not-refused (checkOf file) e; place = at-start file; count = omega arith };
     }
 
-pub started : (file : List ℕ) {n : ℕ} {stage : Stage} {t : Tracker} → n ≡ checkOf file → stage ≡ firstStage n → (t ≡ startOf settings) × Good t
-    → (record { stage = stage; tracker = t; packet = 0; word = 0; left = 0; count = 0 } ≡ startReport file)
-    × GoodReport file (record { stage = stage; tracker = t; packet = 0; word = 0; left = 0; count = 0 })
+abbrev newReport : Stage → Tracker → Report
+newReport stage t = record { stage = stage; tracker = t; packet = 0; word = 0; left = 0; count = 0 }
+
+pub started : (file : List ℕ) {n : ℕ} {stage : Stage} {t : Tracker} → n ≡ checkOf file → stage ≡ firstStage n → t ≡ startOf settings
+    → (newReport stage t ≡ startReport file) × GoodReport file (newReport stage t)
 unfolding startReport
-started file {n} {stage} {t} p q h =
-    let e : record { stage = stage; tracker = t; packet = 0; word = 0; left = 0; count = 0 } ≡ startReport file =
-    λ i. record { stage = (q ∙ ap firstStage p) i; tracker = h .0 i; packet = 0; word = 0; left = 0; count = 0 } in
-    (e, subst (GoodReport file) (sym e) (good-start file (subst Good (h .0) (h .1))))
+started file p q h = (rw (q, p, h), rw (q, p, h) (good-start file))
 
 -- A word's records, as its call told them and left them in the buffer.
 module _ (t : Tracker) (bytes : List ℕ) {zeros after : List ℕ} {a : WordAnswer} (w : WordPost t bytes zeros a after) (n : length zeros ≡ 24) where
@@ -61,17 +61,17 @@ module _ (t : Tracker) (bytes : List ℕ) {zeros after : List ℕ} {a : WordAnsw
   six = omega arith
 
   answered : a ≡ answerOf t (wordCall t bytes 6)
-  answered = w .answer ∙ ap (λ (k : ℕ). answerOf t (wordCall t bytes k)) six
+  answered = rw six at (w .answer)
+
+  stand : after ≡ over (flat (recordsIn (wordCall t bytes 6))) zeros
+  stand = rw six at (w .buffer-is)
 
   told : (o : Outcome) → recordsTold (answerOf t o .told) ≡ length (recordsIn o)
   told (taken next kind guessed records frame lanes) = refl
   told (refused m) = refl
 
   told-is : recordsTold (a .told) ≡ length (recordsIn (wordCall t bytes 6))
-  told-is = ap (λ (x : WordAnswer). recordsTold (x .told)) answered ∙ told (wordCall t bytes 6)
-
-  stand : after ≡ over (flat (recordsIn (wordCall t bytes 6))) zeros
-  stand = w .buffer-is ∙ ap (λ (k : ℕ). over (flat (recordsIn (wordCall t bytes k))) zeros) six
+  told-is = rw answered (told (wordCall t bytes 6))
 
   pub told-few : length after ≡ length zeros → recordsTold (a .told) ≤ 6
   told-few same =
@@ -80,9 +80,7 @@ module _ (t : Tracker) (bytes : List ℕ) {zeros after : List ℕ} {a : WordAnsw
       omega (arith, told-is, length-flat rs)
 
   pub told-stand : recordsAt (recordsTold (a .told)) after ≡ recordsIn (wordCall t bytes 6)
-  told-stand =
-      let rs = recordsIn (wordCall t bytes 6) in
-      (λ i. recordsAt (told-is i) (stand i)) ∙ records-written rs (drop (length (flat rs)) zeros)
+  told-stand = rw (told-is, stand) (records-written (recordsIn (wordCall t bytes 6)) _)
 
 -- A word: its lines are printed.
 pub word-printed : (file : List ℕ) (r : Report) (at : ℕ) {zeros after d d′ : List ℕ} {a : WordAnswer} {given n : ℕ}
@@ -91,43 +89,28 @@ pub word-printed : (file : List ℕ) (r : Report) (at : ℕ) {zeros after d d′
     → given ≡ recordsTold (a .told)
     → Puts (lines (recordsAt given after)) d n d′
     → Prints (itemStep file r (F.Word at)) d (record { report = record { stage = S.Items; tracker = a .tracker; packet = r .packet; word = r .word + 1; left = r .left - 1; count = r .count + given }; n = n }) d′
-word-printed file r at {zeros} {after} {d} {d′} {a} {given} {n} w z g p =
+word-printed file r at {after = after} {given = given} w z g p =
     let t = r .tracker in
     let bytes = bytesAt file at in
-    let rs = recordsIn (wordCall t bytes 6) in
-    let many : given ≡ length rs = g ∙ told-is t bytes w z in
-    let here : lines (recordsAt given after) ≡ lines rs = ap (λ (k : ℕ). lines (recordsAt k after)) g ∙ ap lines (told-stand t bytes w z) in
-    let long : n ≡ length (lines rs) = p .count ∙ ap length here in
+    let stand : recordsAt given after ≡ recordsIn (wordCall t bytes 6) = rw g (told-stand t bytes w z) in
     record {
-      answer =
-          λ i. record {
-            report =
-                record {
-                  stage = S.Items;
-                  tracker = answered t bytes w z i .tracker;
-                  packet = r .packet;
-                  word = r .word + 1;
-                  left = r .left - 1;
-                  count = r .count + many i;
-                };
-            n = long i;
-          };
-      buffer-is = p .buffer-is ∙ ap (λ (l : List ℕ). over l d) here;
+      answer = rw (p .count, stand, g, told-is t bytes w z, answered t bytes w z);
+      buffer-is = p .buffer-is ∙ rw stand;
     }
 
 -- The part of a file that a word stands in.
 pub as-word : {t : Tracker} (file : List ℕ) (at : ℕ) {zeros after : List ℕ} {a : WordAnswer} → WordPost t (midOf at (at + 10 - at) file) zeros a after
     → WordPost t (bytesAt file at) zeros a after
-as-word {t} file at {zeros} {after} {a} w =
+as-word file at w =
     let ten : at + 10 - at ≡ 10 = omega arith in
-    subst (λ (n : ℕ). WordPost t (midOf at n file) zeros a after) ten w
+    rw ten at w
 
 -- What the reader found, and what is to be counted on there.
 module _ {file : List ℕ} {r : Report} (g : GoodReading file r) where
   pub packet-low : r .packet ≤ 2 ^ 32
   packet-low =
       let s = sound file (g .checked) in
-      omega (arith, g .place .within, s .packets-few)
+      omega arith
 
   pub good-word-at : {x : Found} {at : ℕ} → x ≡ nextOf file (r .packet) (r .word) (r .left) → x ≡ F.Word at → GoodWord file r at
   good-word-at {x} {at} p q =
@@ -137,14 +120,14 @@ module _ {file : List ℕ} {r : Report} (g : GoodReading file r) where
       record {
         inside = given .inside;
         one-left = given .one-left;
-        word-low = omega (arith, s .words-few);
-        count-low = omega (arith, s .words-few, g .count);
+        word-low = omega arith;
+        count-low = omega arith;
       }
 
 pub found : (file : List ℕ) (r : Report) {d d′ : List ℕ} {x y : Found} {a : Filled} → x ≡ nextOf file (r .packet) (r .word) (r .left) → x ≡ y
     → Prints (itemStep file r y) d a d′
     → Prints (itemStep file r (nextOf file (r .packet) (r .word) (r .left))) d a d′
-found file r {d} {d′} {x} {y} {a} e q s = subst (λ (z : Found). Prints (itemStep file r z) d a d′) (sym q ∙ e) s
+found file r e q s = rw (← e, q) s
 
 -- A text was put, and the report goes on from another stage.
 pub went-on : {text d d′ : List ℕ} {after next : Report} {n : ℕ} → next ≡ after → Puts text d n d′
@@ -154,4 +137,4 @@ went-on p q = record { answer = λ i. record { report = p i; n = q .count i }; b
 -- The step by the stage.
 pub staged : (file : List ℕ) (r : Report) {d d′ : List ℕ} {s : Stage} {a : Filled} → r .stage ≡ s → Prints (stageStep file r s) d a d′ → Prints (stepOf file r) d a d′
 unfolding stepOf
-staged file r {d} {d′} {s} {a} e p = subst (λ (z : Stage). Prints (stageStep file r z) d a d′) (sym e) p
+staged file r {d} {d′} {a = a} e p = subst (λ (z : Stage). Prints (stageStep file r z) d a d′) (sym e) p
