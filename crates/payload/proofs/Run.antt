@@ -4,7 +4,7 @@ use Prim.Native.Nat.{ℕ, suc, _+_, _-_, _<_}
 use mathlib.Core.Path.{_≡_, refl, sym, ap, _∙_}
 use mathlib.Core.Bool.{Bool, true, false}
 use mathlib.Core.List.{List, [], _++_, append-assoc}
-use native.Mathlib.Nat.{add-assoc, sub-zero}
+use native.Mathlib.Nat.{add-assoc, zero-add, sub-zero}
 use native.Mathlib.Omega.{arith}
 use borrow.Author.Tests.{lt-leb, le-ltb, eq-eqb}
 use lib.ListN.{length, take, drop}
@@ -32,6 +32,9 @@ step-refused n t b places e = simp e
 pub preceded-twice : (k j : ℕ) (xs ys : List Record) (r : Run) → preceded k xs (preceded j ys r) ≡ preceded (k + j) (xs ++ ys) r
 preceded-twice k j xs ys r =
     λ i. record { tracker = r .tracker; words = sym (add-assoc k j (r .words)) i; records = sym (append-assoc xs ys (r .records)) i; refusal = r .refusal }
+
+pub preceded-none : (r : Run) → preceded 0 [] r ≡ r
+preceded-none r = λ i. record { tracker = r .tracker; words = zero-add (r .words) i; records = r .records; refusal = r .refusal }
 
 -- A word that gives no record is taken, whatever room there is.
 module _ (t : Tracker) (bytes : List ℕ) (ten : length bytes ≡ 10) (have : t .accepted ≡ true) (low : t .count < maxWords)

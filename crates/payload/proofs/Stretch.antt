@@ -23,7 +23,7 @@ use Rattle.payload.specs.Payload.{Run, preceded, wordsFrom}
 use Rattle.payload.specs.Quiet.{quietId, checkedLanes, amongData, idAt, QuietRun}
 use Rattle.payload.specs.Silent.{Ready, Glide}
 use Rattle.payload.proofs.QuietId.{quietNext, quiet-silent, quiet-next}
-use Rattle.payload.proofs.Run.{preceded-twice, silent-step}
+use Rattle.payload.proofs.Run.{preceded-twice, preceded-none, silent-step}
 
 -- The invariant after quiet data words.
 good-quiet : (t : Tracker) (n : ℕ) → Good t → t .accepted ≡ true → t .count + n ≤ maxWords → Good (quietNext t n)
@@ -90,14 +90,7 @@ module _ (b : List ℕ) (byte : (i : ℕ) → getD b i 0 < 256) where
   pub glide-start : (t : Tracker) (at : ℕ) → Ready t b at → Glide t b at t at
   glide-start t at r =
       let none : (at - at) / 10 ≡ 0 = omega arith in
-      record {
-        ready = r;
-        onwards = omega arith;
-        runs =
-            λ places.
-            let run = wordsFrom ((length b - at) / 10) t (drop at b) places in
-            sym (ap (λ (k : ℕ). preceded k [] run) none ∙ (λ i. record { tracker = run .tracker; words = zero-add (run .words) i; records = run .records; refusal = run .refusal }));
-      }
+      record { ready = r; onwards = omega arith; runs = λ places. rw none (sym (preceded-none (wordsFrom ((length b - at) / 10) t (drop at b) places))) }
 
   -- Some words at a place of a stretch, of which is known what they do to the run.
   further : (t u v : Tracker) (at i k : ℕ) → Glide t b at u i → i + 10 * k ≤ length b → Good v → v .accepted ≡ true
