@@ -2,21 +2,23 @@
 -- Assumes nothing.
 use Prim.Native.Nat.{ℕ, _≤_, _<_, _^_}
 use mathlib.Core.Path.{_≡_, refl, sym, ap, subst, _∙_}
-use mathlib.Core.Bool.{Bool, true, false, cond, _&&_, _||_}
-use mathlib.Core.List.{List, [], _∷_}
+use mathlib.Core.Bool.{Bool, true, false, cond, _&&_}
+use mathlib.Core.List.{List}
+use mathlib.Core.Logic.{_↔_}
 use native.Mathlib.Omega.{arith}
-use lib.Dec.{leb, ltb, eqb}
+use lib.Dec.{eqb}
 use lib.ListN.{length, replicate}
-use borrow.Author.Tests.{leb-true, eqb-true, eqb-false, ltb-true, le-leb, eq-eqb, ne-eqb}
+use borrow.Author.Tests.{eqb-true, eqb-false, le-leb, eq-eqb, ne-eqb}
 use Rattle.cdp_running.specs.declared.Tracker.{Tracker}
-use Rattle.cdp_running.specs.Tracker.{Good, maxPosition}
+use Rattle.cdp_running.specs.Tracker.{Good}
 use Rattle.tracker_array.specs.declared.Decoded.the-variants.{Is, Not}
-use Rattle.tracker_array.specs.Array.{mark, flag, stateNumber, encodeOf}
-use Rattle.tracker_array.specs.Read.{place, isOn, isFlag, trackerIn, flagsFit, unused, inForm, Sized, isGood, isTracker, decodeOf}
+use Rattle.tracker_array.specs.Array.{flag, stateNumber, encodeOf}
+use Rattle.tracker_array.specs.Read.{place, isOn, isFlag, trackerIn, inForm, Sized, isGood, isTracker, decodeOf}
 use Rattle.tracker_array.specs.Taking.{Fits}
 use Rattle.tracker_array.proofs.State.{state-back, state-low, number-back}
 use Rattle.tracker_array.proofs.Stores.{numbersFrom, spelled}
-use Rattle.tracker_array.proofs.Invariant.{both, all, tests-good, good-tests}
+use Rattle.tracker_array.proofs.Tests.{both, and-is, tests}
+use Rattle.tracker_array.proofs.Invariant.{tests-good, good-tests}
 
 flag-low : (b : Bool) → isFlag (flag b) ≡ true
 flag-low true = refl
@@ -26,12 +28,17 @@ flag-back : (b : Bool) → isOn (flag b) ≡ b
 flag-back true = refl
 flag-back false = refl
 
-number-flag : (n : ℕ) → isFlag n ≡ true → n ≡ flag (isOn n)
-number-flag n e = at (isOn n) refl
+number-flag : (n : ℕ) → n ≤ 1 → flag (isOn n) ≡ n
+number-flag n low = at (isOn n) refl
   where
-    at : (b : Bool) → eqb n 1 ≡ b → n ≡ flag b
-    at true p = eqb-true n 1 p
-    at false p = let low = leb-true n 1 e in let not-one = eqb-false n 1 p in omega arith
+    at : (b : Bool) → eqb n 1 ≡ b → flag b ≡ n
+    at true p = sym (eqb-true n 1 p)
+    at false p = let not-one = eqb-false n 1 p in omega arith
+
+-- A tracker's numbers pass three tests.
+tracker-is : (a : List ℕ) → (isTracker a ≡ true) ↔ ((length a ≡ 32) × ((inForm a ≡ true) × (isGood (trackerIn a) ≡ true)))
+unfolding isTracker
+tracker-is a = (λ e. let (l, rest) = both (eqb (length a) 32) _ e in (eqb-true _ _ l, both (inForm a) _ rest), λ (l, rest). and-is _ _ .1 (eq-eqb _ _ l, and-is _ _ .1 rest))
 
 module _ (t : Tracker) where
   reads-back : trackerIn (encodeOf t) ≡ t
@@ -47,8 +54,7 @@ module _ (t : Tracker) where
   long-back = refl
 
   tracker-back : Good t → Sized t → isTracker (encodeOf t) ≡ true
-  unfolding isTracker
-  tracker-back g s = all (eq-eqb _ _ long-back) (all form-back (ap isGood reads-back ∙ good-tests t g s))
+  tracker-back g s = tracker-is (encodeOf t) .1 (long-back, (form-back, ap isGood reads-back ∙ good-tests t g s))
 
   -- What was written is read again.
   pub decode-encode : Good t → Sized t → decodeOf (encodeOf t) ≡ Is t
@@ -59,61 +65,26 @@ module _ (t : Tracker) where
 pub encode-apart : (t u : Tracker) → encodeOf t ≡ encodeOf u → t ≡ u
 encode-apart t u e = sym (reads-back t) ∙ ap trackerIn e ∙ reads-back u
 
--- The tests that numbers pass.
-pub record Passed (a : List ℕ) : Type 0 where
-  pub long : length a ≡ 32
-  pub marked : place a 0 ≡ mark
-  pub flags : flagsFit a ≡ true
-  pub state : place a 13 ≤ 6
-  pub rest : unused a ≡ true
-  pub good : isGood (trackerIn a) ≡ true
-
-pub passed : (a : List ℕ) → isTracker a ≡ true → Passed a
-unfolding isTracker
-passed a e =
-    let l = both (eqb (length a) 32) _ e in
-    let f = both (inForm a) _ (l .1) in
-    let m = both (eqb (place a 0) mark) _ (f .0) in
-    let g = both (flagsFit a) _ (m .1) in
-    let s = both (leb (place a 13) 6) _ (g .1) in
-    record { long = eqb-true _ _ (l .0); marked = eqb-true _ _ (m .0); flags = g .0; state = leb-true _ _ (s .0); rest = s .1; good = f .1 }
-
--- Numbers that passed are the numbers of what they are read as.
-written : (a : List ℕ) → Passed a → a ≡ encodeOf (trackerIn a)
+-- A tracker's numbers are those of what they are read as: flags and the state are read back, and the mark and the unused places are known.
+written : (a : List ℕ) → isTracker a ≡ true → a ≡ encodeOf (trackerIn a)
 unfolding numbersFrom encodeOf
-written a p =
-    let f1 = both (isFlag (place a 1)) _ (p .flags) in
-    let f2 = both (isFlag (place a 2)) _ (f1 .1) in
-    let f3 = both (isFlag (place a 3)) _ (f2 .1) in
-    let f5 = both (isFlag (place a 5)) _ (f3 .1) in
-    let f15 = both (isFlag (place a 15)) _ (f5 .1) in
-    let f16 = both (isFlag (place a 16)) _ (f15 .1) in
-    let f18 = both (isFlag (place a 18)) _ (f16 .1) in
-    let f22 = both (isFlag (place a 22)) _ (f18 .1) in
-    let f24 = both (isFlag (place a 24)) _ (f22 .1) in
-    let z28 = both (eqb (place a 28) 0) _ (p .rest) in
-    let z29 = both (eqb (place a 29) 0) _ (z28 .1) in
-    let z30 = both (eqb (place a 30) 0) _ (z29 .1) in
-    let e1 = number-flag (place a 1) (f1 .0) in
-    let e2 = number-flag (place a 2) (f2 .0) in
-    let e3 = number-flag (place a 3) (f3 .0) in
-    let e5 = number-flag (place a 5) (f5 .0) in
-    let e13 = sym (number-back (place a 13) (p .state)) in
-    let e15 = number-flag (place a 15) (f15 .0) in
-    let e16 = number-flag (place a 16) (f16 .0) in
-    let e18 = number-flag (place a 18) (f18 .0) in
-    let e22 = number-flag (place a 22) (f22 .0) in
-    let e24 = number-flag (place a 24) (f24 .0) in
-    let e26 = number-flag (place a 26) (f24 .1) in
-    let e28 = eqb-true (place a 28) 0 (z28 .0) in
-    let e29 = eqb-true (place a 29) 0 (z29 .0) in
-    let e30 = eqb-true (place a 30) 0 (z30 .0) in
-    let e31 = eqb-true (place a 31) 0 (z30 .1) in
-    sym (spelled 32 0 a (p .long))
-    ∙ (λ i.
-    p .marked i ∷ e1 i ∷ e2 i ∷ e3 i ∷ place a 4 ∷ e5 i ∷ place a 6 ∷ place a 7 ∷ place a 8 ∷ place a 9 ∷ place a 10 ∷ place a 11 ∷ place a 12 ∷ e13 i
-    ∷ place a 14 ∷ e15 i ∷ e16 i ∷ place a 17 ∷ e18 i ∷ place a 19 ∷ place a 20 ∷ place a 21 ∷ e22 i ∷ place a 23 ∷ e24 i ∷ place a 25 ∷ e26 i ∷ place a 27
-    ∷ e28 i ∷ e29 i ∷ e30 i ∷ e31 i ∷ [])
+written a e =
+    let (long, (form, good)) = tracker-is a .0 e in
+    let (m, ((f1, (f2, (f3, (f5, (f15, (f16, (f18, (f22, (f24, f26))))))))), (low, (z28, (z29, (z30, z31)))))) = simp tests at form in
+    sym (spelled 32 0 a long) ∙ simp (m, number-flag, number-back, z28, z29, z30, z31)
+
+-- They fit the widths that they are read with.
+pub tracker-fits : (a : List ℕ) → isTracker a ≡ true → Fits a
+tracker-fits a e =
+    let (long, (form, tested)) = tracker-is a .0 e in
+    let (good, sized) = tests-good (trackerIn a) tested in
+    let (position, (orbit, (trigger, (bc, (page, (stop, two)))))) = simp tests at (good .packet) in
+    let format = at (eqb (place a 12) 0) refl two in
+    omega arith
+  where
+    at : (b : Bool) → eqb (place a 12) 0 ≡ b → (b ≡ false → place a 12 ≡ 2) → place a 12 < 2 ^ 8
+    at true none two = omega (arith, eqb-true (place a 12) 0 none)
+    at false some two = omega (arith, two refl)
 
 module _ (a : List ℕ) (t : Tracker) (e : decodeOf a ≡ Is t) where
   decoded : (isTracker a ≡ true) × (trackerIn a ≡ t)
@@ -126,13 +97,13 @@ module _ (a : List ℕ) (t : Tracker) (e : decodeOf a ≡ Is t) where
 
   -- What was read is a tracker that the start or a call can have given, and the numbers are its own.
   pub decoded-good : Good t × Sized t
-  decoded-good = subst (λ (u : Tracker). Good u × Sized u) (decoded .1) (tests-good (trackerIn a) (passed a (decoded .0) .good))
+  decoded-good = subst (λ (u : Tracker). Good u × Sized u) (decoded .1) (tests-good (trackerIn a) (tracker-is a .0 (decoded .0) .1 .1))
 
   pub decoded-encodes : a ≡ encodeOf t
-  decoded-encodes = written a (passed a (decoded .0)) ∙ ap encodeOf (decoded .1)
+  decoded-encodes = written a (decoded .0) ∙ ap encodeOf (decoded .1)
 
   pub decoded-long : length a ≡ 32
-  decoded-long = passed a (decoded .0) .long
+  decoded-long = tracker-is a .0 (decoded .0) .0
 
 -- Zeros are no tracker, and neither is an array of another length.
 pub zeros-none : decodeOf (replicate 32 0) ≡ Not
@@ -142,47 +113,6 @@ zeros-none = refl
 pub another-length : (a : List ℕ) → (length a ≡ 32 → ⊥) → decodeOf a ≡ Not
 unfolding decodeOf isTracker
 another-length a h = simp (ne-eqb _ _ h)
-
--- Numbers that passed fit the widths that they are read with.
-pub passed-fits : (a : List ℕ) → Passed a → Fits a
-passed-fits a p =
-    let g = tests-good (trackerIn a) (p .good) in
-    let q = g .0 .packet in
-    let position = both (leb (place a 6) maxPosition) _ q in
-    let orbit = both (ltb (place a 7) (2 ^ 32)) _ (position .1) in
-    let trigger = both (ltb (place a 8) (2 ^ 32)) _ (orbit .1) in
-    let bc = both (leb (place a 9) 4095) _ (trigger .1) in
-    let page = both (ltb (place a 10) (2 ^ 16)) _ (bc .1) in
-    let stop = both (ltb (place a 11) (2 ^ 8)) _ (page .1) in
-    let b = leb-true (place a 9) 4095 (bc .0) in
-    let c = g .0 .count in
-    let l = g .0 .ihw .lanes in
-    let k = g .0 .tdh .trigger in
-    let h = g .0 .tdh .bc in
-    let n = g .0 .internal .bc in
-    record {
-      long = p .long;
-      period = g .1 .period;
-      orbit = ltb-true _ _ (orbit .0);
-      trigger = ltb-true _ _ (trigger .0);
-      bc = omega arith;
-      page = ltb-true _ _ (page .0);
-      stop = ltb-true _ _ (stop .0);
-      format = either (stop .1);
-      count = omega arith;
-      lanes = omega arith;
-      tdh-trigger = omega arith;
-      tdh-bc = omega arith;
-      tdh-orbit = g .1 .orbit;
-      internal-bc = omega arith;
-    }
-  where
-    either : (eqb (place a 12) 0 || eqb (place a 12) 2) ≡ true → place a 12 < 2 ^ 8
-    either e = at (eqb (place a 12) 0) refl e
-      where
-        at : (b : Bool) → eqb (place a 12) 0 ≡ b → (b || eqb (place a 12) 2) ≡ true → place a 12 < 2 ^ 8
-        at true r s = let z = eqb-true (place a 12) 0 r in omega arith
-        at false r s = let z = eqb-true (place a 12) 2 s in omega arith
 
 -- What the code tests, one half after the other, and what it gives.
 module _ (a : List ℕ) where

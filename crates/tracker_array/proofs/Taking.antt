@@ -15,8 +15,8 @@ use Rattle.cdp_running.specs.Tracker.{inRange, maxWords, pastIhw, pastTdh}
 use Rattle.tracker_array.specs.declared.Decoded.the-variants.{Is}
 use Rattle.tracker_array.specs.Read.{place, isOn, stateOf, settingsIn, packetIn, internalIn, cdwIn, frameIn, trackerIn, inForm, settingsGood, internalGood, cdwGood, frameGood, isGood, isTracker, decodeOf}
 use Rattle.tracker_array.specs.Taking.{taking, takesData, takingGood, Fits}
-use Rattle.tracker_array.proofs.Invariant.{both}
-use Rattle.tracker_array.proofs.Laws.{is-tracker, passed, passed-fits}
+use Rattle.tracker_array.proofs.Tests.{both}
+use Rattle.tracker_array.proofs.Laws.{is-tracker, tracker-fits}
 
 -- The tests of a tracker on the left, with an IHW and a TDH asked for last; those that await data on the right.
 rearranged : (ihw tdh s p l z k b o zz n c f : Bool)
@@ -75,4 +75,4 @@ module _ (a : List ℕ) where
 
   pub awaiting-fits : takesData a ≡ true → Fits a
   unfolding takesData
-  awaiting-fits e = passed-fits a (passed a (both (isTracker a) _ e .0))
+  awaiting-fits e = tracker-fits a (both (isTracker a) _ e .0)

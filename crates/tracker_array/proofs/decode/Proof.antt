@@ -1,6 +1,6 @@
 -- `decode` meets its contract: the tests that were passed are those of the definition.
 -- Assumes nothing.
-use Rattle.tracker_array.proofs.Laws.{another-length, passed, passed-fits, tested, is-tracker, no-tracker}
+use Rattle.tracker_array.proofs.Laws.{another-length, tracker-fits, tested, is-tracker, no-tracker}
 use denote.Ref.{now}
 use mathlib.Core.Path.{sym, _∙_}
 use borrow.Author.Needs.{needs}
@@ -11,7 +11,7 @@ returns : tie.Need-returns
 returns c = sym (another-length (now (c .before .before .args .a)) (c .if1 .taken))
 
 tracker-requires : tie.Need-tracker-requires
-tracker-requires c κs = passed-fits (now (c .before .before .before .before .before .args .a)) (passed (now (c .before .before .before .before .before .args .a)) (tested (now (c .before .before .before .before .before .args .a)) (c .before .before .before .if1 .left) (c .before .before .in-form .ensures) (c .before .is-good .ensures) ∙ c .if2 .taken))
+tracker-requires c κs = tracker-fits (now (c .before .before .before .before .before .args .a)) (tested (now (c .before .before .before .before .before .args .a)) (c .before .before .before .if1 .left) (c .before .before .in-form .ensures) (c .before .is-good .ensures) ∙ c .if2 .taken)
 
 returns-2 : tie.Need-returns-2
 returns-2 c = is-tracker (now (c .before .before .before .before .before .before .args .a)) (c .tracker .ensures) (tested (now (c .before .before .before .before .before .before .args .a)) (c .before .before .before .before .if1 .left) (c .before .before .before .in-form .ensures) (c .before .before .is-good .ensures) ∙ c .before .if2 .taken)
