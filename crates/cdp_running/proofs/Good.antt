@@ -7,6 +7,7 @@ use native.Mathlib.Nat.{mul-le-mul-left}
 use native.Mathlib.Omega.{arith}
 use lib.Dec.{leb, ltb, eqb}
 use borrow.Author.Tests.{leb-true, lt-ltb}
+use Rattle.words.proofs.Tests.{both}
 use Rattle.words.specs.declared.Word.{Word}
 use Rattle.words.specs.Tdh.{triggerType, internalTrigger, triggerBc, triggerOrbit}
 use Rattle.words.specs.Ihw.{activeLanes}
@@ -107,13 +108,8 @@ good-accept t p g e =
       fresh = λ f. clash f;
     }
 
--- What stands first in a row of tests that all hold.
-first : (a b : Bool) → (a && b) ≡ true → a ≡ true
-first true b e = refl
-first false b e = e
-
 pub position-low : (p : Packet) → inRange p ≡ true → p .position ≤ maxPosition
-position-low p e = leb-true (p .position) maxPosition (first (leb (p .position) maxPosition) _ e)
+position-low p e = leb-true (p .position) maxPosition (both (leb (p .position) maxPosition) _ e .0)
 
 -- The step from word to word is 16 or 10.
 stride : (b : Bool) → cond b 16 10 ≤ 16

@@ -26,7 +26,7 @@ use Rattle.payload.proofs.Run.{silent-call}
 use Rattle.tracker_array.specs.Array.{encodeOf}
 use Rattle.tracker_array.specs.Read.{place, isOn, trackerIn}
 use Rattle.tracker_array.specs.Taking.{takesData, Fits}
-use Rattle.tracker_array.proofs.Tests.{both}
+use Rattle.words.proofs.Tests.{both}
 use Rattle.tracker_array.proofs.Laws.{decoded-encodes}
 use Rattle.tracker_array.proofs.Taking.{among, Awaiting, awaiting, awaiting-fits}
 use Rattle.khandzorul.specs.declared.WordNumbers.{WordNumbers}

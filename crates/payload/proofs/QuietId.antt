@@ -10,6 +10,7 @@ use Rattle.words.specs.Word.{idOf}
 use Rattle.words.specs.DataIds.{isDataId, innerLane, outerLane, inputNumber}
 use Rattle.words.specs.Lanes.{isLaneActive}
 use Rattle.words.proofs.Bits.{bits-below}
+use Rattle.words.proofs.Tests.{both}
 use Rattle.words.proofs.Table.{values, agree}
 use Rattle.payload_fsm.specs.declared.State.{State}
 use Rattle.payload_fsm.specs.declared.State.the-variants as S
@@ -55,10 +56,6 @@ one-lane bad = same-test _ _ refl
 -- A quiet id is a data id, and its lane is active.
 quiet-is : (lanes id : ℕ) → quietId lanes id ≡ true → (isDataId id ≡ true) × (isLaneActive (laneOf id) lanes ≡ true)
 quiet-is lanes id = both (isDataId id) (isLaneActive (laneOf id) lanes)
-  where
-    both : (a b : Bool) → (a && b) ≡ true → (a ≡ true) × (b ≡ true)
-    both true b e = (refl, e)
-    both false b e = absurd (true≢false (sym e))
 
 -- An id that is no data id is not that of a data word.
 other : (id k : ℕ) → isDataId id ≡ true → isDataId k ≡ false → eqb id k ≡ false

@@ -17,7 +17,7 @@ use Rattle.cdp_running.specs.declared.Tracker.{Tracker}
 use Rattle.cdp_running.specs.Tracker.{Good, GoodSettings, GoodIhw, GoodTdh, GoodInternal, GoodCdw, GoodFrame, settingsOf, noPacket}
 use Rattle.tracker_array.specs.Read.{Sized, settingsGood, ihwGood, tdhGood, internalGood, cdwGood, frameGood, packetBlank, inStart, blank, isGood}
 use Rattle.tracker_array.proofs.State.{starts}
-use Rattle.tracker_array.proofs.Tests.{tests}
+use Rattle.words.proofs.Tests.{tests}
 
 -- Each part: its test, and what holds of it.
 start-is : (s : State) → (inStart s ≡ true) ↔ (s ≡ S.Ihw)

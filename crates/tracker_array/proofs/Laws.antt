@@ -17,7 +17,7 @@ use Rattle.tracker_array.specs.Read.{place, isOn, isFlag, trackerIn, inF
 use Rattle.tracker_array.specs.Taking.{Fits}
 use Rattle.tracker_array.proofs.State.{state-back, state-low, number-back}
 use Rattle.tracker_array.proofs.Stores.{numbersFrom, spelled}
-use Rattle.tracker_array.proofs.Tests.{both, and-is, tests}
+use Rattle.words.proofs.Tests.{both, and-is, tests}
 use Rattle.tracker_array.proofs.Invariant.{tests-good, good-tests}
 
 flag-low : (b : Bool) → isFlag (flag b) ≡ true

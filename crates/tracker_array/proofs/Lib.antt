@@ -1,6 +1,5 @@
 pub mod State
 pub mod Stores
-pub mod Tests
 pub mod Invariant
 pub mod Laws
 pub mod Taking

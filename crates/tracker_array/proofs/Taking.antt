@@ -15,7 +15,7 @@ use Rattle.cdp_running.specs.Tracker.{inRange, maxWords, pastIhw, pastTdh}
 use Rattle.tracker_array.specs.declared.Decoded.the-variants.{Is}
 use Rattle.tracker_array.specs.Read.{place, isOn, stateOf, settingsIn, packetIn, internalIn, cdwIn, frameIn, trackerIn, inForm, settingsGood, internalGood, cdwGood, frameGood, isGood, isTracker, decodeOf}
 use Rattle.tracker_array.specs.Taking.{taking, takesData, takingGood, Fits}
-use Rattle.tracker_array.proofs.Tests.{both}
+use Rattle.words.proofs.Tests.{both}
 use Rattle.tracker_array.proofs.Laws.{is-tracker, tracker-fits}
 
 -- The tests of a tracker on the left, with an IHW and a TDH asked for last; those that await data on the right.

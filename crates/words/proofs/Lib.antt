@@ -4,3 +4,4 @@ pub mod Listing
 pub mod Table
 pub mod Unique
 pub mod Worst
+pub mod Tests
