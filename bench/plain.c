@@ -38,7 +38,7 @@ enum {
 typedef char tracker_is_long_enough[PLACES <= KHZ_TRACKER_WORDS ? 1 : -1];
 
 enum { ID_IHW = 0xE0, ID_DDW0 = 0xE4, ID_TDH = 0xE8, ID_TDT = 0xF0, ID_CDW = 0xF8 };
-enum { LAST_BC = 3563, ORBIT_LENGTH = 3564 };
+enum { LAST_BC = KHZ_LAST_CROSSING, ORBIT_LENGTH = LAST_BC + 1 };
 
 /* A word: bits 63:0, bits 71:64, id. */
 typedef struct {
@@ -334,10 +334,12 @@ HOT bool take(uint64_t *t, const uint8_t *bytes, buffer *b, khz_word_answer *a)
     return taken;
 }
 
-uint64_t plain_start(uint64_t *t, size_t tracker_len, bool running, bool frames, bool periodic, uint16_t period)
+uint64_t plain_start(uint64_t *t, size_t tracker_len, uint64_t running, uint64_t frames, uint64_t periodic, uint64_t period)
 {
     if (tracker_len != KHZ_TRACKER_WORDS)
         return KHZ_NO_TRACKER;
+    if (running > 1 || frames > 1 || periodic > 1 || (periodic && period > 65535))
+        return KHZ_NO_SETTINGS;
     memset(t, 0, KHZ_TRACKER_WORDS * sizeof *t);
     t[RUNNING] = running;
     t[FRAMES] = frames;
@@ -347,11 +349,11 @@ uint64_t plain_start(uint64_t *t, size_t tracker_len, bool running, bool frames,
     return KHZ_DONE;
 }
 
-uint64_t plain_packet(uint64_t *t, size_t tracker_len, uint64_t position, uint32_t orbit, uint32_t trigger_type, uint16_t bc, uint16_t page, uint8_t stop, uint8_t format)
+uint64_t plain_packet(uint64_t *t, size_t tracker_len, uint64_t position, uint64_t orbit, uint64_t trigger_type, uint64_t bc, uint64_t page, uint64_t stop, uint64_t format)
 {
     if (tracker_len != KHZ_TRACKER_WORDS)
         return KHZ_NO_TRACKER;
-    if (position > (uint64_t)1 << 62 || bc > 4095 || (format != 0 && format != 2))
+    if (position > KHZ_POSITION_MAX || orbit >> 32 || trigger_type >> 32 || bc > 4095 || page >> 16 || stop >> 8 || (format != 0 && format != 2))
         return KHZ_PACKET_FIELD;
     t[POSITION] = position;
     t[ORBIT] = orbit;
