@@ -2,12 +2,15 @@
 """pictures.py: draws docs/states.svg from the step's definition (crates/payload_fsm/specs/Step.antt) and docs/layers.svg from crates.txt.
 
     tools/pictures.py            writes both
-    tools/pictures.py --check    exit status 1 where a picture is not what the definition gives
+    tools/pictures.py --check    exit status 1 where a picture is not what its source gives, or is not clean (drawing.py)
 """
-import math
 import os
 import re
 import sys
+
+sys.dont_write_bytecode = True  # no __pycache__ beside the tools
+from drawing import BLACK, BLUE, GREY, LINE, RED, SAND, SIZE, SKY, Arrow, Box, Label, Picture, above, below, beside, faults, plain, svg
+from rows import TALL, layout
 
 TOP = os.path.dirname(os.path.dirname(os.path.abspath(__file__)))
 
@@ -99,132 +102,163 @@ def arrows(source):
     return out
 
 
-# --- drawing ---
+# --- the states ---
 
-HEAD = ('<svg xmlns="http://www.w3.org/2000/svg" viewBox="0 0 {w} {h}" font-family="sans-serif" font-size="13">\n'
-        '<title>{title}</title>\n'
-        '<defs><marker id="a" markerWidth="9" markerHeight="8" refX="8" refY="4" orient="auto"><path d="M0,0 L9,4 L0,8 z"/></marker></defs>\n'
-        '<rect width="{w}" height="{h}" fill="white"/>\n')
-
-PLACES = {
-    'S.Ihw': (120, 140), 'S.Tdh': (470, 140), 'S.Data': (850, 140), 'S.CIhw': (1210, 140),
-    'S.Three': (470, 430), 'S.CData': (850, 430), 'S.CTdh': (1210, 430),
-}
 NAMES = {
     'S.Ihw': 'IHW_', 'S.Tdh': 'TDH_', 'S.Data': 'DATA_', 'S.CIhw': 'c_IHW_', 'S.Three': 'THREE', 'S.CData': 'c_DATA_', 'S.CTdh': 'c_TDH_',
 }
+LONG = {'S.Three': 'DDW0_or_TDH_or_IHW_'}
 KINDS = {
     'K.Ihw': 'IHW', 'K.IhwContinuation': 'IHW continuation', 'K.Tdh': 'TDH', 'K.TdhAfterPacketDone': 'TDH after packet done',
     'K.TdhContinuation': 'TDH continuation', 'K.DataWord': 'data word', 'K.Cdw': 'CDW', 'K.Tdt': 'TDT', 'K.Ddw0': 'DDW0',
 }
-# How far an arrow bends, and where along it its words stand.
-BEND = {
-    ('S.Three', 'S.Tdh'): (-40, 0.5), ('S.Tdh', 'S.Three'): (-40, 0.36), ('S.Three', 'S.Data'): (46, 0.42), ('S.Data', 'S.Three'): (46, 0.36),
-    ('S.Three', 'S.Ihw'): (0, 0.5), ('S.CData', 'S.CIhw'): (0, 0.5),
+CODES = {'K.DataWord': 'E991', 'K.Ddw0': 'E992'}
+# A state's row, first column and last column. THREE lies below two states, so that the arrows between it and them are straight.
+PLACES = {
+    'S.Ihw': (0, 0, 0), 'S.Tdh': (0, 1, 1), 'S.Data': (0, 2, 2), 'S.CIhw': (0, 3, 3), 'S.CTdh': (0, 4, 4),
+    'S.Three': (1, 1, 2), 'S.CData': (1, 3, 3),
 }
+COLUMNS, ROWS = (80, 272, 582, 834, 1078), (136, 286)  # the middles; between two columns the labels have room
+WIDE, HIGH = 96, 44
+BEND = 12  # how round a bend is
+LOOP = 36  # how far a loop stands out
+LEGEND = (
+    'On an arrow: which word comes, and in blue what it is taken as. 0xE0 to 0xF8: its id, the last byte. Data id: the id of a lane.',
+    'Bit 13 of a TDH: no data. Packet done: bit 64 of a TDT; where it is clear, the event goes on in the next page (sand: continuation).',
+    'E991, E992: the state does not know the id, so what the word is taken as is a guess, and a record says so.',
+)
 
 
-def escaped(s):
-    return s.replace('&', '&amp;').replace('<', '&lt;')
+def state_box(state):
+    row, first, last = PLACES[state]
+    x = (COLUMNS[first] + COLUMNS[last]) // 2
+    fill = SAND if NAMES[state].startswith('c_') else SKY
+    return Box(x, ROWS[row], COLUMNS[last] - COLUMNS[first] + WIDE, HIGH, 14, fill, 2.6 if state == 'S.Ihw' else 1.2)
 
 
-def lines_at(x, y, lines, anchor='middle'):
-    out = []
-    for i, l in enumerate(lines):
-        yy = y + (i - (len(lines) - 1) / 2) * 16 + 4
-        out.append(f'<text x="{x:.0f}" y="{yy:.0f}" text-anchor="{anchor}" stroke="white" stroke-width="4" paint-order="stroke">{escaped(l)}</text>\n')
-    return ''.join(out)
+def words_of(rows):
+    """What an arrow says: a line for each row of the table; two lines where it has one row, to be short."""
+    lines = []
+    for conds, kind, guessed in rows:
+        when = ', '.join(conds) or 'any word'
+        taken = ([(CODES[kind], RED), (', ', BLACK)] if guessed else []) + [(KINDS[kind], BLUE)]
+        lines += [[(when + ':', BLACK)], taken] if len(rows) == 1 else [[(when + ': ', BLACK)] + taken]
+    return lines
 
 
-def label(conds, kind, guessed):
-    code = {'K.DataWord': 'E991, ', 'K.Ddw0': 'E992, '}[kind] if guessed else ''
-    when = ', '.join(conds)
-    return (when + ': ' if when else 'any word: ') + code + KINDS[kind]
+def loop(box, up, words):
+    """Out of the box and back, above it (up -1) or below it (1)."""
+    y = box.y + up * box.h // 2
+    far = y + up * LOOP * 4 // 3
+    way = [((box.x - 22, y),), ((box.x - 22, far), (box.x + 22, far), (box.x + 22, y))]
+    return way, (above if up < 0 else below)(box.x, y + up * LOOP, words)
 
 
-def states_svg(table):
-    svg = HEAD.format(w=1350, h=590, title='The state machine: what a word is taken as')
+def upright(a, b, back, words):
+    """Straight down or up; down goes to the right of up where both are there."""
+    side = 1 if a.y < b.y or not back else -1
+    x = (max(a.rect()[0], b.rect()[0]) + min(a.rect()[2], b.rect()[2])) // 2 + (side * 22 if back else 0)
+    towards = 1 if a.y < b.y else -1
+    first, last = a.y + towards * a.h // 2, b.y - towards * b.h // 2
+    return [((x, first),), ((x, last),)], beside(x, (first + last) // 2, words, side)
+
+
+def level(a, b, back, words):
+    """Straight to the right or left; to the right goes above to the left where both are there."""
+    towards = 1 if a.x < b.x else -1
+    y = a.y - (towards * 10 if back else 0)
+    first, last = a.x + towards * a.w // 2, b.x - towards * b.w // 2
+    return [((first, y),), ((last, y),)], (below if back and towards < 0 else above)((first + last) // 2, y, words)
+
+
+def bent(a, b, words):
+    """Level at the height of the lower box, upright at the middle of the upper one."""
+    low, high = (a, b) if a.y > b.y else (b, a)
+    side = 1 if low.x < high.x else -1
+    turn = (high.x, low.y)
+    ends = [(low.x + side * low.w // 2, low.y), (high.x, high.y + high.h // 2)]
+    round_it = [(high.x - side * BEND, low.y), (high.x, low.y - BEND)]
+    words_at = above((ends[0][0] + high.x) // 2, low.y, words)
+    if low is b:
+        ends, round_it = ends[::-1], round_it[::-1]
+    return [(ends[0],), (round_it[0],), (turn, turn, round_it[1]), (ends[1],)], words_at
+
+
+def route(p, start, end, back, words):
+    a, b = p.boxes[start], p.boxes[end]
+    if start == end:
+        return loop(a, -1 if PLACES[start][0] == 0 else 1, words)
+    if a.y == b.y:
+        return level(a, b, back, words)
+    if a.rect()[0] < b.rect()[2] and b.rect()[0] < a.rect()[2]:
+        return upright(a, b, back, words)
+    return bent(a, b, words)
+
+
+def names_in(state, box):
+    """The state's name, and below it the long one where there is one."""
+    if state not in LONG:
+        return [Label(box.x, box.y - LINE // 2, plain(NAMES[state]), size=16, box=state)]
+    return [Label(box.x, box.y - LINE, plain(NAMES[state]), size=16, box=state),
+            Label(box.x, box.y, plain(LONG[state], colour=GREY), size=12, box=state)]
+
+
+def begin_at(p, state):
+    x, top = p.boxes[state].x, p.boxes[state].rect()[1]
+    p.arrows.append(Arrow('the start', state, [((x, top - LOOP),), ((x, top),)]))
+    p.labels.append(above(x, top - LOOP, plain('start, reset')))
+
+
+def states_picture(table):
+    p = Picture('The state machine: what a word is taken as')
     by = {}
     for state, conds, kind, guessed, target in table:
-        by.setdefault((state, target), []).append(label(conds, kind, guessed))
-    words = ''
-    for (s, t), said in by.items():
-        (x1, y1), (x2, y2) = PLACES[s], PLACES[t]
-        if s == t:
-            up = -1 if y1 < 280 else 1
-            svg += (f'<path d="M{x1 - 22},{y1 + up * 24} C{x1 - 50},{y1 + up * 72} {x1 + 50},{y1 + up * 72} {x1 + 22},{y1 + up * 24}"'
-                    ' fill="none" stroke="black" marker-end="url(#a)"/>\n')
-            words += lines_at(x1, y1 + up * (66 + 8 * len(said)), said)
-            continue
-        bend, along = BEND.get((s, t), (0, 0.5))
-        d = math.hypot(x2 - x1, y2 - y1)
-        ux, uy = (x2 - x1) / d, (y2 - y1) / d
-        cx, cy = (x1 + x2) / 2 - uy * bend * 2, (y1 + y2) / 2 + ux * bend * 2
-        gap = 62 if abs(ux) > abs(uy) else 30
-        a, b = math.hypot(cx - x1, cy - y1), math.hypot(x2 - cx, y2 - cy)
-        sx, sy = x1 + (cx - x1) / a * gap, y1 + (cy - y1) / a * gap
-        ex, ey = x2 - (x2 - cx) / b * gap, y2 - (y2 - cy) / b * gap
-        svg += f'<path d="M{sx:.0f},{sy:.0f} Q{cx:.0f},{cy:.0f} {ex:.0f},{ey:.0f}" fill="none" stroke="black" marker-end="url(#a)"/>\n'
-        k = along
-        lx = (1 - k) ** 2 * x1 + 2 * k * (1 - k) * cx + k * k * x2
-        ly = (1 - k) ** 2 * y1 + 2 * k * (1 - k) * cy + k * k * y2
-        words += lines_at(lx, ly - (12 if y1 == y2 else 0), said)
-    for s, (x, y) in PLACES.items():
-        thick = 2.5 if s == 'S.Ihw' else 1.2
-        svg += f'<rect x="{x - 52}" y="{y - 22}" width="104" height="44" rx="14" fill="#eef3fa" stroke="black" stroke-width="{thick}"/>\n'
-        svg += f'<text x="{x}" y="{y + 5}" text-anchor="middle" font-size="16">{NAMES[s]}</text>\n'
-    svg += words
-    svg += lines_at(120, 100, ['start, reset'])
-    svg += lines_at(470, 570, ['THREE is DDW0_or_TDH_or_IHW_'])
-    return svg + '</svg>\n'
+        by.setdefault((state, target), []).append((conds, kind, guessed))
+    for s in NAMES:
+        p.boxes[s] = state_box(s)
+        p.labels += names_in(s, p.boxes[s])
+    for (s, t), rows in by.items():
+        way, label = route(p, s, t, (t, s) in by, words_of(rows))
+        p.arrows.append(Arrow(s, t, way))
+        p.labels.append(label)
+    begin_at(p, 'S.Ihw')
+    p.labels.append(Label(32, ROWS[-1] + 134, plain(*LEGEND, colour=GREY), 'start'))
+    return p
 
 
-def layers_svg(crates):
+# --- the crates ---
+
+def crates_of(text):
+    """Each crate with the crates that it stands on, and the names that are no crate here."""
     deps = {}
-    for line in crates.splitlines():
+    for line in text.splitlines():
         line = line.split('#')[0].strip()
         if line:
             name, rest = line.split(':')
             deps[name.strip()] = rest.split()
-    height = {}
+    others = sorted({d for ds in deps.values() for d in ds if d not in deps})
+    return {n: [d for d in ds if d in deps] for n, ds in deps.items()}, others
 
-    def level(n):
-        if n not in height:
-            height[n] = 1 + max([level(d) for d in deps[n] if d in deps], default=-1)
-        return height[n]
 
-    for n in deps:
-        level(n)
-    # What is reached through another dependency needs no arrow of its own.
-    def below(n):
-        return set().union(*[{d} | below(d) for d in deps[n] if d in deps]) if deps[n] else set()
-    rows = {}
-    for n in deps:
-        rows.setdefault(height[n], []).append(n)
-    top = max(rows)
-    w, h = 1100, 90 * (top + 1) + 30
-    place = {}
-    for lv, ns in sorted(rows.items()):
-        # Left to right as what a crate stands on.
-        ns.sort(key=lambda n: sum(place[d][0] for d in deps[n] if d in deps) / max(1, sum(d in deps for d in deps[n])))
-        for i, n in enumerate(ns):
-            place[n] = ((i + 1) * w / (len(ns) + 1), h - 60 - 90 * lv)
-    svg = HEAD.format(w=w, h=h, title='The crates: each stands on those that its arrows lead to')
-    for n, ds in deps.items():
-        own = [d for d in ds if d in deps]
-        for d in own:
-            if any(d in below(o) for o in own if o != d):
-                continue
-            (x1, y1), (x2, y2) = place[n], place[d]
-            svg += f'<line x1="{x1:.0f}" y1="{y1 + 18:.0f}" x2="{x2:.0f}" y2="{y2 - 18:.0f}" stroke="black" marker-end="url(#a)"/>\n'
-    for n, (x, y) in place.items():
+def layers_picture(text):
+    deps, others = crates_of(text)
+    width = 2 * round(max(len(n) for n in deps) * SIZE * 0.55 / 2 + 12)
+    places, lines = layout(deps, width)
+    p = Picture('The crates: each stands on those that its arrows lead to')
+    for n, (x, y) in places.items():
         program = os.path.exists(os.path.join(TOP, 'crates', n, 'src', 'main.rt'))
-        fill = '#f6efe2' if program else '#eef3fa'
-        svg += f'<rect x="{x - 66:.0f}" y="{y - 18:.0f}" width="132" height="36" rx="6" fill="{fill}" stroke="black"/>\n'
-        svg += f'<text x="{x:.0f}" y="{y + 5:.0f}" text-anchor="middle">{n}</text>\n'
-    svg += lines_at(12, h - 14, ['blue: library; sand: program. An arrow leads to what a crate stands on.'], 'start')
-    return svg + '</svg>\n'
+        p.boxes[n] = Box(x, y, width, TALL, 6, SAND if program else SKY)
+        p.labels.append(Label(x, y - LINE // 2, plain(n), box=n))
+    p.arrows = [Arrow(*line) for line in lines]
+    legend = ['Blue: library. Sand: program. An arrow leads to what a crate stands on, and lines',
+              'to the same crate join. What is reached through another crate has no arrow of its own.']
+    if others:
+        legend.append('Left out, from the kit: ' + ', '.join(others) + '.')
+    p.labels.append(Label(0, max(y for _, y in places.values()) + TALL + 10, plain(*legend, colour=GREY), 'start'))
+    return p
 
+
+# --- both ---
 
 def read(name):
     with open(os.path.join(TOP, name), encoding='utf8') as f:
@@ -232,18 +266,22 @@ def read(name):
 
 
 def main():
-    made = {
-        'docs/states.svg': states_svg(arrows(read('crates/payload_fsm/specs/Step.antt'))),
-        'docs/layers.svg': layers_svg(read('crates.txt')),
+    pictures = {
+        'docs/states.svg': states_picture(arrows(read('crates/payload_fsm/specs/Step.antt'))),
+        'docs/layers.svg': layers_picture(read('crates.txt')),
     }
-    if sys.argv[1:] == ['--check']:
-        wrong = [n for n, svg in made.items() if not os.path.exists(os.path.join(TOP, n)) or read(n) != svg]
-        for n in wrong:
-            print(f'pictures: {n} is not what its source gives; run tools/pictures.py')
-        sys.exit(1 if wrong else 0)
-    for n, svg in made.items():
-        with open(os.path.join(TOP, n), 'w', encoding='utf8') as f:
-            f.write(svg)
+    wrong = [f'{n}: {fault}' for n, p in pictures.items() for fault in faults(p)]
+    for n, p in pictures.items():
+        path = os.path.join(TOP, n)
+        if sys.argv[1:] != ['--check']:
+            with open(path, 'w', encoding='utf8') as f:
+                f.write(svg(p))
+        elif not os.path.exists(path) or read(n) != svg(p):
+            wrong.append(f'{n} is not what its source gives; run tools/pictures.py')
+    for said in wrong:
+        print(f'pictures: {said}')
+    sys.exit(1 if wrong else 0)
 
 
-main()
+if __name__ == '__main__':
+    main()
