@@ -174,6 +174,13 @@ printed("lane 78 is not lane 14: id 0x47 is no data id, its lane is never active
 printed("992 after a TDH with no data too: an unknown id is a DDW0; stop is not 1, page is 0",
         file(packet([ihw(), tdh(100, no_data=1), data(0x20)])), "84 992 32 0", "84 60 1 0", "84 1110 0 0", "84 1111 0 0")
 
+# The example of docs/CODES.md. From the first data word on each word has a byte of the next one as its id, and that byte is 0.
+PAGE = b"".join(clean(93))
+ONE_BYTE_LOST = PAGE[:20] + PAGE[21:] + b"\0"
+printed("one byte lost in the first data word of a page of 93 words: 991 and 70 for each of the 91 words from there on",
+        file(packet([ONE_BYTE_LOST[i:i + 10] for i in range(0, 930, 10)])),
+        *["%d %d 0 0" % (64 + 10 * n, code) for n in range(2, 93) for code in (991, 70)])
+
 # What no file can show: 4,097 words in one packet; a word refused with 4 is not counted, so that it stands at 64 when it is given again; with a set
 # period of 3564 each of the found periods 0, 1 .. 3563 differs, and their sum is 3563 times 3564 / 2.
 CALLS = "words 4096 refused 3\nrefused 4 then 64 30 2 0\ndiffer 3564 sum 6349266\n"

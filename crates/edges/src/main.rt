@@ -9,7 +9,7 @@ use validators::Packet;
 use validators::Settings;
 
 // How many files there are.
-const FILES: u8 = 46;
+const FILES: u8 = 47;
 
 fn text(bytes: &[u8]) {
     io::write_all(STDOUT_FILENO, bytes);
