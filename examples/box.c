@@ -10,7 +10,7 @@
 #include <inttypes.h>
 #include <stdio.h>
 
-enum { FILE_BYTES = 60000, PACKETS_AT = 16, PACKET_BYTES = 24 };
+enum { PACKETS_AT = 16, PACKET_BYTES = 24 };
 
 /* Room for the records of one word is the least with which every call gets on; more room, fewer calls. */
 enum { ROOM = KHZ_RECORDS_PER_WORD };
@@ -46,12 +46,12 @@ static uint64_t take_packets(const uint8_t *file, uint64_t *given)
     uint64_t tracker[KHZ_TRACKER_WORDS], refusal;
     const uint8_t *words = file + number(file + 12, 4);
 
-    refusal = khz_start(tracker, KHZ_TRACKER_WORDS, true, true, true, 198);
+    refusal = khz_start(tracker, KHZ_TRACKER_WORDS, 1, 1, 1, 198);
     for (uint64_t i = 0; i < number(file, 4) && refusal == KHZ_DONE; i++) {
         const uint8_t *p = file + PACKETS_AT + PACKET_BYTES * i;
         size_t bytes = (size_t)number(p + 22, 2) * KHZ_WORD_BYTES;
-        refusal = khz_packet(tracker, KHZ_TRACKER_WORDS, number(p, 8), (uint32_t)number(p + 8, 4), (uint32_t)number(p + 12, 4),
-                             (uint16_t)number(p + 16, 2), (uint16_t)number(p + 18, 2), p[20], p[21]);
+        refusal = khz_packet(tracker, KHZ_TRACKER_WORDS, number(p, 8), number(p + 8, 4), number(p + 12, 4), number(p + 16, 2), number(p + 18, 2),
+                             p[20], p[21]);
         if (refusal == KHZ_DONE)
             refusal = take_words(tracker, words, bytes, given);
         words += bytes;
@@ -61,7 +61,7 @@ static uint64_t take_packets(const uint8_t *file, uint64_t *given)
 
 int main(int argc, char **argv)
 {
-    static uint8_t file[FILE_BYTES + 1];
+    static uint8_t file[KHZ_FILE_BYTES + 1];
     uint64_t refusal, given = 0;
     size_t bytes;
     FILE *f;

@@ -8,7 +8,7 @@
 
 mod khandzorul;
 
-use khandzorul::{Packet, Refused, Settings, Tracker, NO_ROOM, RECORDS_PER_WORD, RECORD_NUMBERS, WORD_BYTES};
+use khandzorul::{Packet, Refused, Settings, Tracker, RECORDS_PER_WORD, RECORD_NUMBERS, WORD_BYTES};
 use std::process::ExitCode;
 
 const PACKETS_AT: usize = 16;
@@ -30,7 +30,7 @@ fn take_words(tracker: &mut Tracker, mut words: &[u8]) -> Result<usize, Refused>
         given += a.records;
         match a.refused {
             None => return Ok(given),
-            Some(Refused(NO_ROOM)) => words = &words[a.words * WORD_BYTES..],
+            Some(Refused::NoRoom) => words = &words[a.words * WORD_BYTES..],
             Some(refused) => return Err(refused),
         }
     }
@@ -38,18 +38,18 @@ fn take_words(tracker: &mut Tracker, mut words: &[u8]) -> Result<usize, Refused>
 
 /// The packets of a file that check_file has accepted.
 fn take_packets(file: &[u8]) -> Result<usize, Refused> {
-    let mut tracker = Tracker::start(Settings { running: true, frames: true, period: Some(198) });
+    let mut tracker = Tracker::start(Settings { running: true, frames: true, period: Some(198) })?;
     let (packets, words) = file.split_at(number(&file[12..16]) as usize);
     let (mut words, mut given) = (words, 0);
     for p in packets[PACKETS_AT..].chunks(PACKET_BYTES) {
         tracker.packet(Packet {
             position: number(&p[..8]),
-            orbit: number(&p[8..12]) as u32,
-            trigger_type: number(&p[12..16]) as u32,
-            bc: number(&p[16..18]) as u16,
-            page: number(&p[18..20]) as u16,
-            stop: p[20],
-            format: p[21],
+            orbit: number(&p[8..12]),
+            trigger_type: number(&p[12..16]),
+            bc: number(&p[16..18]),
+            page: number(&p[18..20]),
+            stop: p[20].into(),
+            format: p[21].into(),
         })?;
         let (own, rest) = words.split_at(number(&p[22..]) as usize * WORD_BYTES);
         given += take_words(&mut tracker, own)?;
@@ -74,8 +74,8 @@ fn main() -> ExitCode {
             println!("records {given}");
             ExitCode::SUCCESS
         }
-        Err(Refused(n)) => {
-            println!("refused {n}");
+        Err(refused) => {
+            println!("refused {}", refused.number());
             ExitCode::from(1)
         }
     }

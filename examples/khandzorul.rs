@@ -1,40 +1,106 @@
 //! khandzorul.rs: the C library for Rust programs, with nothing unsafe left to the caller.
 //!
 //! A slice carries its length, `&mut self` lends the tracker to one call at a time, and a refusal is an `Err`. What may not overlap can't,
-//! since Rust lends it apart. This file is believed and not proved: its declarations must be those of include/khandzorul.h.
+//! since Rust lends it apart. Numbers go over with 64 bits, so that the library decides whether they are in range: widen with `from`, and never
+//! cut with `as`. This file is believed and not proved: its declarations must be those of include/khandzorul.h.
 
 pub const TRACKER_WORDS: usize = 32;
 pub const WORD_BYTES: usize = 10;
 pub const RECORD_NUMBERS: usize = 4;
 pub const RECORDS_PER_WORD: usize = 6;
+pub const FILE_BYTES: usize = 60000;
+pub const LAST_CROSSING: u64 = 3563;
+pub const POSITION_MAX: u64 = 1 << 62;
 
-/// The refusal of a word whose records exceed the room.
-pub const NO_ROOM: u64 = 4;
-
-/// The number of a refusal, as the header lists them.
+/// Why a call was refused; `number` is the header's.
 #[derive(Clone, Copy, Debug, PartialEq, Eq)]
-pub struct Refused(pub u64);
+pub enum Refused {
+    WrongLength = 1,
+    NoPacket = 2,
+    PacketFull = 3,
+    NoRoom = 4,
+    PacketField = 5,
+    FileShape = 6,
+    FileCount = 7,
+    NoTracker = 100,
+    NoSettings = 101,
+}
 
-/// What khz_word says of a word that was taken.
-#[repr(C)]
-#[derive(Clone, Copy, Debug)]
+impl Refused {
+    pub fn number(self) -> u64 {
+        self as u64
+    }
+}
+
+/// What a word was taken as.
+#[derive(Clone, Copy, Debug, PartialEq, Eq)]
+pub enum Kind {
+    Ihw = 1,
+    IhwContinuation = 2,
+    Tdh = 3,
+    TdhAfterPacketDone = 4,
+    TdhContinuation = 5,
+    DataWord = 6,
+    Cdw = 7,
+    Tdt = 8,
+    Ddw0 = 9,
+}
+
+/// What a word did to the readout frame.
+#[derive(Clone, Copy, Debug, PartialEq, Eq)]
+pub enum Frame {
+    None,
+    Opened,
+    Closed { start: u64, end: u64 },
+}
+
+/// What is said of a word that was taken. `lanes`: how many an IHW switches on, else 0.
+#[derive(Clone, Copy, Debug, PartialEq, Eq)]
 pub struct Word {
-    refusal: u64,
-    pub kind: u64,
-    pub guessed: u64,
-    pub records: u64,
-    pub frame: u64,
-    pub frame_start: u64,
-    pub frame_end: u64,
+    pub kind: Kind,
+    pub guessed: bool,
+    pub records: usize,
+    pub frame: Frame,
     pub lanes: u64,
 }
 
-/// What khz_payload says: the words taken and records written, also where `refused` says why it stopped.
-#[derive(Clone, Copy, Debug)]
+/// What is said of a payload: the words taken and records written, also where `refused` says why it stopped.
+#[derive(Clone, Copy, Debug, PartialEq, Eq)]
 pub struct Payload {
     pub words: usize,
     pub records: usize,
     pub refused: Option<Refused>,
+}
+
+/// A period is at most 65,535.
+#[derive(Clone, Copy, Debug)]
+pub struct Settings {
+    pub running: bool,
+    pub frames: bool,
+    pub period: Option<u64>,
+}
+
+#[derive(Clone, Copy, Debug)]
+pub struct Packet {
+    pub position: u64,
+    pub orbit: u64,
+    pub trigger_type: u64,
+    pub bc: u64,
+    pub page: u64,
+    pub stop: u64,
+    pub format: u64,
+}
+
+#[repr(C)]
+struct WordAnswer {
+    refusal: u64,
+    kind: u64,
+    guessed: u64,
+    records: u64,
+    frame: u64,
+    frame_start: u64,
+    frame_end: u64,
+    lanes: u64,
 }
 
 #[repr(C)]
@@ -44,29 +110,12 @@ struct PayloadAnswer {
     records: u64,
 }
 
-#[derive(Clone, Copy, Debug)]
-pub struct Settings {
-    pub running: bool,
-    pub frames: bool,
-    pub period: Option<u16>,
-}
-
-#[derive(Clone, Copy, Debug)]
-pub struct Packet {
-    pub position: u64,
-    pub orbit: u32,
-    pub trigger_type: u32,
-    pub bc: u16,
-    pub page: u16,
-    pub stop: u8,
-    pub format: u8,
-}
-
 extern "C" {
-    fn khz_start(tracker: *mut u64, tracker_len: usize, running: bool, frames: bool, periodic: bool, period: u16) -> u64;
+    fn khz_start(tracker: *mut u64, tracker_len: usize, running: u64, frames: u64, periodic: u64, period: u64) -> u64;
     #[rustfmt::skip]
-    fn khz_packet(tracker: *mut u64, tracker_len: usize, position: u64, orbit: u32, trigger_type: u32, bc: u16, page: u16, stop: u8, format: u8) -> u64;
-    fn khz_word(tracker: *mut u64, tracker_len: usize, word: *const u8, word_len: usize, records: *mut u64, records_len: usize) -> Word;
+    fn khz_packet(tracker: *mut u64, tracker_len: usize, position: u64, orbit: u64, trigger_type: u64, bc: u64, page: u64, stop: u64, format: u64) -> u64;
+    #[rustfmt::skip]
+    fn khz_word(tracker: *mut u64, tracker_len: usize, word: *const u8, word_len: usize, records: *mut u64, records_len: usize) -> WordAnswer;
     #[rustfmt::skip]
     fn khz_payload(tracker: *mut u64, tracker_len: usize, payload: *const u8, payload_len: usize, records: *mut u64, records_len: usize) -> PayloadAnswer;
     fn khz_reset(tracker: *mut u64, tracker_len: usize) -> u64;
@@ -74,7 +123,26 @@ extern "C" {
 }
 
 fn done(refusal: u64) -> Result<(), Refused> {
-    if refusal == 0 { Ok(()) } else { Err(Refused(refusal)) }
+    use Refused::*;
+    if refusal == 0 {
+        return Ok(());
+    }
+    let all = [WrongLength, NoPacket, PacketFull, NoRoom, PacketField, FileShape, FileCount, NoTracker, NoSettings];
+    Err(all.into_iter().find(|r| r.number() == refusal).expect("a refusal that the header has"))
+}
+
+fn kind(number: u64) -> Kind {
+    use Kind::*;
+    let all = [Ihw, IhwContinuation, Tdh, TdhAfterPacketDone, TdhContinuation, DataWord, Cdw, Tdt, Ddw0];
+    all.into_iter().find(|k| *k as u64 == number).expect("a kind that the header has")
+}
+
+fn frame(a: &WordAnswer) -> Frame {
+    match a.frame {
+        0 => Frame::None,
+        1 => Frame::Opened,
+        _ => Frame::Closed { start: a.frame_start, end: a.frame_end },
+    }
 }
 
 /// A link's tracker. A copy is a tracker of its own.
@@ -83,12 +151,11 @@ pub struct Tracker([u64; TRACKER_WORDS]);
 
 // Each call hands over pointers with the lengths of the very slices that they come from, and the library keeps none of them.
 impl Tracker {
-    pub fn start(settings: Settings) -> Tracker {
+    pub fn start(s: Settings) -> Result<Tracker, Refused> {
         let mut t = Tracker([0; TRACKER_WORDS]);
-        let (periodic, period) = (settings.period.is_some(), settings.period.unwrap_or(0));
-        let refusal = unsafe { khz_start(t.0.as_mut_ptr(), t.0.len(), settings.running, settings.frames, periodic, period) };
-        assert_eq!(refusal, 0, "TRACKER_WORDS is not the library's");
-        t
+        let (running, frames, periodic) = (u64::from(s.running), u64::from(s.frames), u64::from(s.period.is_some()));
+        done(unsafe { khz_start(t.0.as_mut_ptr(), t.0.len(), running, frames, periodic, s.period.unwrap_or(0)) })?;
+        Ok(t)
     }
 
     pub fn packet(&mut self, p: Packet) -> Result<(), Refused> {
@@ -99,7 +166,8 @@ impl Tracker {
     pub fn word(&mut self, word: &[u8], records: &mut [u64]) -> Result<Word, Refused> {
         let (t, n) = (self.0.as_mut_ptr(), self.0.len());
         let a = unsafe { khz_word(t, n, word.as_ptr(), word.len(), records.as_mut_ptr(), records.len()) };
-        done(a.refusal).map(|()| a)
+        done(a.refusal)?;
+        Ok(Word { kind: kind(a.kind), guessed: a.guessed == 1, records: a.records as usize, frame: frame(&a), lanes: a.lanes })
     }
 
     pub fn payload(&mut self, payload: &[u8], records: &mut [u64]) -> Payload {
@@ -108,9 +176,8 @@ impl Tracker {
         Payload { words: a.words as usize, records: a.records as usize, refused: done(a.refusal).err() }
     }
 
-    pub fn reset(&mut self) {
-        let refusal = unsafe { khz_reset(self.0.as_mut_ptr(), self.0.len()) };
-        assert_eq!(refusal, 0, "a tracker is one from its start on");
+    pub fn reset(&mut self) -> Result<(), Refused> {
+        done(unsafe { khz_reset(self.0.as_mut_ptr(), self.0.len()) })
     }
 }
 

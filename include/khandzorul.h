@@ -2,10 +2,14 @@
  *
  * Use: khz_start once for each link, khz_packet at each packet, then khz_payload for all its words or khz_word for each of them.
  *
+ * Numbers.  Every number comes in with 64 bits, so that its range is decided by the library and not by a conversion of the compiler. A
+ *   number that is too large is refused, and never cut: a crossing of 65541 is not crossing 5.
+ *
  * Memory.  The caller owns all of it. The library has no heap, no global and no file, and keeps no pointer after a call.
  *   A tracker is an array of KHZ_TRACKER_WORDS numbers that khz_start writes. Its content is the library's: copy it as a whole, change
  *   nothing in it. A copy is a tracker too. Use one tracker for each link, and one thread at a time for each tracker; calls on
- *   different trackers may run at the same time.
+ *   different trackers may run at the same time. The array's first number carries KHZ_API: an array that another version wrote is
+ *   answered by 100.
  *   A pointer may be null where its length is 0. Arrays of one call that overlap are the caller's fault.
  *
  * Lengths.  tracker_len and records_len count 64-bit numbers, the other lengths count bytes. records_len is numbers and not records:
@@ -14,33 +18,44 @@
  * Records.  A record is four numbers: position, code, first, second. A call writes its records at the front of the array, in order,
  *   and leaves the rest of the array as it was.
  *
- * Refusals.  Each call answers 0 or the number of a refusal. 100 comes before every other number. A refused khz_packet, khz_word or
- *   khz_reset leaves the tracker and the records as they were, bit for bit; so does a khz_payload that took no word. A khz_payload that
- *   is refused with 3 or 4 after some words keeps those: they count, and their records stand in the array.
+ * Refusals.  Each call answers 0 or the number of a refusal. 100 comes before every other number. A refused khz_start, khz_packet,
+ *   khz_word or khz_reset leaves the tracker and the records as they were, bit for bit; so does a khz_payload that took no word. A
+ *   khz_payload that is refused with 3 or 4 after some words keeps those: they count, and their records stand in the array.
  *   In an answer with a refusal all other numbers are 0, save words and records of a khz_payload_answer.
+ *   Look at every answer. A compiler that can warn of a call whose answer is not looked at does so.
  */
 #ifndef KHANDZORUL_H
 #define KHANDZORUL_H
 
 #include <stddef.h>
 #include <stdint.h>
-#ifndef __cplusplus
-#include <stdbool.h>
-#endif
 
 #ifdef __cplusplus
 extern "C" {
 #endif
 
-#define KHZ_TRACKER_WORDS 32     /* numbers in a tracker */
-#define KHZ_WORD_BYTES 10        /* bytes in a word */
-#define KHZ_PACKET_WORDS 4096    /* words that a packet takes */
-#define KHZ_RECORD_NUMBERS 4     /* numbers in a record: position, code, first, second */
-#define KHZ_RECORDS_PER_WORD 6   /* the most records that one word gives */
+#define KHZ_API 2                                /* the version of this boundary */
+
+#define KHZ_TRACKER_WORDS 32                     /* numbers in a tracker */
+#define KHZ_WORD_BYTES 10                        /* bytes in a word */
+#define KHZ_PACKET_WORDS 4096                    /* words that a packet takes */
+#define KHZ_RECORD_NUMBERS 4                     /* numbers in a record: position, code, first, second */
+#define KHZ_RECORDS_PER_WORD 6                   /* the most records that one word gives */
+#define KHZ_FILE_BYTES 60000                     /* bytes that a bench file has at most */
+#define KHZ_LAST_CROSSING 3563                   /* the last legal crossing of an orbit; no period is taken past it */
+#define KHZ_POSITION_MAX ((uint64_t)1 << 62)     /* the largest position of a packet */
+
+#if defined(__GNUC__)
+#define KHZ_ANSWER __attribute__((warn_unused_result))
+#elif defined(__cplusplus) && __cplusplus >= 201703L
+#define KHZ_ANSWER [[nodiscard]]
+#else
+#define KHZ_ANSWER
+#endif
 
 /* What a word was taken as. */
 enum khz_kind {
-    KHZ_NONE = 0,                    /* nothing: the call was refused */
+    KHZ_NONE = 0,                                /* nothing: the call was refused */
     KHZ_IHW = 1,
     KHZ_IHW_CONTINUATION = 2,
     KHZ_TDH = 3,
@@ -59,60 +74,101 @@ enum khz_frame {
     KHZ_FRAME_CLOSED = 2
 };
 
-/* Refusals. In this order where several would hold: 100, then 1, 2, 3, 4 for words; 6, 7, then per packet 5, 3 for a file. */
+/* Refusals. Where several hold, the first of this order is given: of a start 100, 101; of a packet 100, 5; of a word and of a payload
+ * 100, 1, 2, 3, 4; of a file 6, 7, then packet by packet 5, 3. */
 enum khz_refusal {
-    KHZ_DONE = 0,                    /* not refused */
-    KHZ_WRONG_LENGTH = 1,            /* a word that is not 10 bytes, a payload that is not a multiple of 10 */
-    KHZ_NO_PACKET = 2,               /* no packet accepted yet */
-    KHZ_PACKET_FULL = 3,             /* 4,096 words taken in this packet; in a file, a packet's count above 4,096 */
-    KHZ_NO_ROOM = 4,                 /* this word's records exceed the room; the word is not taken */
-    KHZ_PACKET_FIELD = 5,            /* a packet field outside its range */
-    KHZ_FILE_SHAPE = 6,              /* a file under 16 or over 60,000 bytes, or whose offsets or length are not as stated */
-    KHZ_FILE_COUNT = 7,              /* the packets' word counts don't sum to the header's */
-    KHZ_NO_TRACKER = 100             /* tracker_len is not KHZ_TRACKER_WORDS, or the array holds no tracker (all zeros is none) */
+    KHZ_DONE = 0,                                /* not refused */
+    KHZ_WRONG_LENGTH = 1,                        /* a word is not 10 bytes, or a payload not a multiple of 10 */
+    KHZ_NO_PACKET = 2,                           /* no packet was accepted yet */
+    KHZ_PACKET_FULL = 3,                         /* 4,096 words were taken in this packet; in a file, a packet's count is above 4,096 */
+    KHZ_NO_ROOM = 4,                             /* the records of this word exceed the room; the word is not taken */
+    KHZ_PACKET_FIELD = 5,                        /* a packet's field is out of its range */
+    KHZ_FILE_SHAPE = 6,                          /* a file is under 16 or over 60,000 bytes, or its offsets or length are not as stated */
+    KHZ_FILE_COUNT = 7,                          /* the packets' word counts do not sum to the header's */
+    KHZ_NO_TRACKER = 100,                        /* tracker_len is not KHZ_TRACKER_WORDS, or the array holds no tracker (all zeros is none) */
+    KHZ_NO_SETTINGS = 101                        /* a flag is neither 0 nor 1, or the period is above 65,535 */
+};
+
+/* Codes of records: the second number of a record. docs/CODES.md says of each what its two last numbers are and what to look at.
+ * "R": only with running checks. */
+enum khz_code {
+    KHZ_CODE_IHW = 30,                           /* an IHW has another id, or a reserved bit set */
+    KHZ_CODE_TDH = 40,                           /* a TDH has another id, a reserved bit set, or nothing that triggered it */
+    KHZ_CODE_NO_CONTINUATION = 41,               /* R: a TDH continuation has its continuation bit clear */
+    KHZ_CODE_CONTINUATION = 42,                  /* R: a TDH that begins has its continuation bit set */
+    KHZ_CODE_PACKET_TYPE = 44,                   /* R: the trigger type of a TDH is not its packet's */
+    KHZ_CODE_PERIOD = 45,                        /* R: two internal triggers are not the set period apart */
+    KHZ_CODE_TDT = 50,                           /* a TDT has another id, or a reserved bit set */
+    KHZ_CODE_NO_FRAME = 59,                      /* a TDT with packet done, and no frame was open */
+    KHZ_CODE_DDW0 = 60,                          /* a DDW0 has another id, a reserved bit set, or an index that is not 0 */
+    KHZ_CODE_NO_DATA_ID = 70,                    /* a word in the data section is neither data nor a first CDW */
+    KHZ_CODE_USER_FIELDS = 81,                   /* R: a CDW has other user fields than the one before, and its index is not 0 */
+    KHZ_CODE_EARLIER_CROSSING = 440,             /* R: after packet done, a TDH is at an earlier crossing than the TDH before it */
+    KHZ_CODE_CONTINUATION_BC = 441,              /* R: a TDH continuation has another crossing than the TDH before it */
+    KHZ_CODE_CONTINUATION_ORBIT = 442,           /* R: another orbit */
+    KHZ_CODE_CONTINUATION_TYPE = 443,            /* R: another trigger type */
+    KHZ_CODE_PACKET_ORBIT = 444,                 /* R: the orbit of a TDH is not its packet's */
+    KHZ_CODE_PACKET_BC = 445,                    /* R: the crossing of a TDH is not its packet's */
+    KHZ_CODE_UNKNOWN_IN_DATA = 991,              /* an id that is neither data, CDW nor TDT; the word was taken as data */
+    KHZ_CODE_UNKNOWN_AFTER_DONE = 992,           /* an id that is neither TDH, DDW0 nor IHW; the word was taken as DDW0 */
+    KHZ_CODE_PAST_LAST_CROSSING = 1045,          /* R: a crossing is above 3563, so that there is no period */
+    KHZ_CODE_OUTER_LANE = 1071,                  /* R: an outer lane sent data, and the IHW has not switched it on */
+    KHZ_CODE_INNER_LANE = 1072,                  /* R: an inner lane did */
+    KHZ_CODE_INPUT = 1073,                       /* R: the input number of an outer lane is above 6 */
+    KHZ_CODE_DDW0_STOP = 1110,                   /* R: a DDW0 stands in a packet whose stop is not 1 */
+    KHZ_CODE_DDW0_PAGE = 1111,                   /* R: a DDW0 stands on page 0 */
+    KHZ_CODE_IHW_STOP = 1120,                    /* R: an IHW stands in a packet whose stop is not 0 */
+    KHZ_CODE_IHW_PAGE = 1121                     /* R: an IHW stands on a page other than 0 */
 };
 
 /* Answer of khz_word. */
 typedef struct {
-    uint64_t refusal;                /* enum khz_refusal */
-    uint64_t kind;                   /* enum khz_kind */
-    uint64_t guessed;                /* 1: the state knows no word of this id, and kind is its best guess (code 991 or 992); else 0 */
-    uint64_t records;                /* records written, 0 to 6 */
-    uint64_t frame;                  /* enum khz_frame */
-    uint64_t frame_start;            /* closed: position of the word that opened the frame; else 0 */
-    uint64_t frame_end;              /* closed: position of this word; else 0 */
-    uint64_t lanes;                  /* kind 1 or 2: how many lanes the IHW switches on; else 0 */
+    uint64_t refusal;                            /* enum khz_refusal */
+    uint64_t kind;                               /* enum khz_kind */
+    uint64_t guessed;                            /* 1: the state knows no word of this id, and kind is its best guess (code 991 or 992); else 0 */
+    uint64_t records;                            /* records written, 0 to 6 */
+    uint64_t frame;                              /* enum khz_frame */
+    uint64_t frame_start;                        /* closed: position of the word that opened the frame; else 0 */
+    uint64_t frame_end;                          /* closed: position of this word; else 0 */
+    uint64_t lanes;                              /* kind 1 or 2: how many lanes the IHW switches on; else 0 */
 } khz_word_answer;
 
 /* Answer of khz_payload. */
 typedef struct {
-    uint64_t refusal;                /* enum khz_refusal */
-    uint64_t words;                  /* words taken */
-    uint64_t records;                /* records written */
+    uint64_t refusal;                            /* enum khz_refusal */
+    uint64_t words;                              /* words taken */
+    uint64_t records;                            /* records written */
 } khz_payload_answer;
 
-/* Makes a tracker, whatever stood in the array before. Answers 0 or 100.
- * running: running checks on. frames: readout frames on. period: the trigger period that is looked for when periodic is true; ignored
- * otherwise. Settings are fixed from here on. */
-uint64_t khz_start(uint64_t *tracker, size_t tracker_len, bool running, bool frames, bool periodic, uint16_t period);
+/* The library writes the answers as numbers one after the other. */
+#if defined(__cplusplus) && __cplusplus >= 201103L
+static_assert(sizeof(khz_word_answer) == 64 && sizeof(khz_payload_answer) == 24, "answers are 8 and 3 numbers of 64 bits");
+#elif defined(__STDC_VERSION__) && __STDC_VERSION__ >= 201112L
+_Static_assert(sizeof(khz_word_answer) == 64 && sizeof(khz_payload_answer) == 24, "answers are 8 and 3 numbers of 64 bits");
+#endif
+
+/* Makes a tracker, whatever stood in the array before. Answers 0, 100 or 101.
+ * running: running checks on (1) or off (0). frames: readout frames on or off. periodic: 1 if a trigger period is looked for. period: that
+ * period, at most 65,535; where periodic is 0 it is not looked at. Settings are fixed from here on. */
+KHZ_ANSWER uint64_t khz_start(uint64_t *tracker, size_t tracker_len, uint64_t running, uint64_t frames, uint64_t periodic, uint64_t period);
 
 /* Begins a packet: its words count from 1 again, and no data is seen in it yet. Answers 0, 100 or 5.
- * position at most 2^62; bc at most 4095; format 0 (16 bytes between words) or 2 (10 bytes). Word n of the packet stands at
- * position + 64 + (n - 1) * 16 or 10. stop is a number of 8 bits. */
-uint64_t khz_packet(uint64_t *tracker, size_t tracker_len, uint64_t position, uint32_t orbit, uint32_t trigger_type, uint16_t bc, uint16_t page, uint8_t stop, uint8_t format);
+ * Ranges: position at most KHZ_POSITION_MAX; orbit and trigger_type below 2^32; bc at most 4095; page below 2^16; stop below 2^8; format 0 (16
+ * bytes from word to word) or 2 (10 bytes). Word n of the packet stands at position + 64 + (n - 1) * 16 or 10. */
+KHZ_ANSWER uint64_t khz_packet(uint64_t *tracker, size_t tracker_len, uint64_t position, uint64_t orbit, uint64_t trigger_type, uint64_t bc, uint64_t page, uint64_t stop, uint64_t format);
 
 /* Takes one word of 10 bytes and writes its records. Refusals: 100, 1, 2, 3, 4. */
-khz_word_answer khz_word(uint64_t *tracker, size_t tracker_len, const uint8_t *word, size_t word_len, uint64_t *records, size_t records_len);
+KHZ_ANSWER khz_word_answer khz_word(uint64_t *tracker, size_t tracker_len, const uint8_t *word, size_t word_len, uint64_t *records, size_t records_len);
 
 /* Takes the words of a payload in order, as khz_word would, and stops at the first that is refused. Refusals: 100, 1, 2, 3, 4.
  * An empty payload is accepted once a packet was. After 4, make room and hand in the rest, from byte words * 10 on. */
-khz_payload_answer khz_payload(uint64_t *tracker, size_t tracker_len, const uint8_t *payload, size_t payload_len, uint64_t *records, size_t records_len);
+KHZ_ANSWER khz_payload_answer khz_payload(uint64_t *tracker, size_t tracker_len, const uint8_t *payload, size_t payload_len, uint64_t *records, size_t records_len);
 
-/* The next word is awaited as in the beginning (an IHW); all else is kept. Answers 0 or 100. */
-uint64_t khz_reset(uint64_t *tracker, size_t tracker_len);
+/* Puts the state machine back to its start, where an IHW is expected. Nothing else changes. Answers 0 or 100. */
+KHZ_ANSWER uint64_t khz_reset(uint64_t *tracker, size_t tracker_len);
 
 /* Is this a bench file? Answers 0, or 6, 7, 5 or 3. */
-uint64_t khz_check_file(const uint8_t *file, size_t file_len);
+KHZ_ANSWER uint64_t khz_check_file(const uint8_t *file, size_t file_len);
 
 #ifdef __cplusplus
 }

@@ -1,4 +1,5 @@
-/* boundary.c: the C boundary by example: 01's whole case through word and payload calls, and khz_check_file about its edges.
+/* boundary.c: the C boundary by example: 01's whole case through word and payload calls, every number that comes in about the edge of its
+ * range, and khz_check_file about its edges.
  *
  *     cc -std=c11 -I include tests/boundary.c target/staticlib/libkhandzorul.a -o /tmp/boundary && /tmp/boundary
  *
@@ -8,6 +9,7 @@
 #include "khandzorul.h"
 
 #include <inttypes.h>
+#include <stdbool.h>
 #include <stdio.h>
 #include <stdlib.h>
 #include <string.h>
@@ -47,7 +49,7 @@ static const uint64_t case_records[3][KHZ_RECORD_NUMBERS] = {{84, 1072, 1, 1}, {
 
 static void begin_case(uint64_t *t)
 {
-    expect(khz_start(t, KHZ_TRACKER_WORDS, true, true, true, 198) == KHZ_DONE, "khz_start is refused");
+    expect(khz_start(t, KHZ_TRACKER_WORDS, 1, 1, 1, 198) == KHZ_DONE, "khz_start is refused");
     expect(khz_packet(t, KHZ_TRACKER_WORDS, 0, 7, 0x10, 3564, 0, 0, 2) == KHZ_DONE, "the packet of the whole case is refused");
 }
 
@@ -88,6 +90,81 @@ static void case_by_payload(void)
     a = khz_payload(t, KHZ_TRACKER_WORDS, whole_case + CASE_WORDS + 10 * a.words, 10, records, 2 * KHZ_RECORD_NUMBERS);
     expect(a.refusal == KHZ_DONE && a.words == 1 && a.records == 2, "the rest of the whole case has another answer");
     expect(memcmp(records, case_records[1], 2 * sizeof case_records[0]) == 0, "the rest of the whole case gives other records");
+}
+
+/* How far past its last value a number is handed in: by one, and by what a conversion to 16, 32 or 63 bits would cut off. */
+static const uint64_t past[4] = {1, UINT64_C(1) << 16, UINT64_C(1) << 32, UINT64_C(1) << 63};
+enum { PAST = sizeof past / sizeof *past };
+
+static void packet_ranges(void)
+{
+    static const struct {
+        const char *name;
+        uint64_t last;
+    } fields[7] = {{"position", KHZ_POSITION_MAX}, {"orbit", UINT32_MAX}, {"trigger_type", UINT32_MAX}, {"bc", 4095},
+                   {"page", UINT16_MAX}, {"stop", UINT8_MAX}, {"format", 2}};
+    uint64_t t[KHZ_TRACKER_WORDS], before[KHZ_TRACKER_WORDS], f[7] = {0};
+    char what[64];
+
+    expect(khz_start(t, KHZ_TRACKER_WORDS, 1, 1, 1, 198) == KHZ_DONE, "khz_start is refused");
+    for (int i = 0; i < 7; i++) {
+        f[i] = fields[i].last;
+        snprintf(what, sizeof what, "the last %s is refused", fields[i].name);
+        expect(khz_packet(t, KHZ_TRACKER_WORDS, f[0], f[1], f[2], f[3], f[4], f[5], f[6]) == KHZ_DONE, what);
+        memcpy(before, t, sizeof t);
+        for (int k = 0; k < PAST; k++) {
+            f[i] = fields[i].last + past[k];
+            snprintf(what, sizeof what, "%s %" PRIu64 " is not refused with 5", fields[i].name, f[i]);
+            expect(khz_packet(t, KHZ_TRACKER_WORDS, f[0], f[1], f[2], f[3], f[4], f[5], f[6]) == KHZ_PACKET_FIELD, what);
+        }
+        expect(memcmp(before, t, sizeof t) == 0, "a refused packet changed the tracker");
+        f[i] = 0;
+    }
+    /* the two faults that this is for */
+    expect(khz_packet(t, KHZ_TRACKER_WORDS, 0, 0, 0, 65541, 0, 0, 2) == KHZ_PACKET_FIELD, "a crossing of 65541 is taken for 5");
+    expect(khz_packet(t, KHZ_TRACKER_WORDS, 0, 0, 0, 0, 0, 0, 258) == KHZ_PACKET_FIELD, "format 258 is taken for 2");
+    expect(khz_packet(t, KHZ_TRACKER_WORDS, 0, 0, 0, 0, 0, 0, 1) == KHZ_PACKET_FIELD, "format 1 is not refused with 5");
+}
+
+static void setting_ranges(void)
+{
+    static const uint64_t last[4] = {1, 1, 1, 65535};
+    uint64_t t[KHZ_TRACKER_WORDS], before[KHZ_TRACKER_WORDS], s[4] = {1, 1, 1, 198};
+    char what[64];
+
+    for (int i = 0; i < 4; i++) {
+        uint64_t kept = s[i];
+        s[i] = last[i];
+        expect(khz_start(t, KHZ_TRACKER_WORDS, s[0], s[1], s[2], s[3]) == KHZ_DONE, "the last value of a setting is refused");
+        memcpy(before, t, sizeof t);
+        for (int k = 0; k < PAST; k++) {
+            s[i] = last[i] + past[k];
+            snprintf(what, sizeof what, "setting %d of %" PRIu64 " is not refused with 101", i, s[i]);
+            expect(khz_start(t, KHZ_TRACKER_WORDS, s[0], s[1], s[2], s[3]) == KHZ_NO_SETTINGS, what);
+            expect(khz_start(t, KHZ_TRACKER_WORDS - 1, s[0], s[1], s[2], s[3]) == KHZ_NO_TRACKER, "100 does not come before 101");
+        }
+        expect(memcmp(before, t, sizeof t) == 0, "a refused khz_start wrote");
+        s[i] = kept;
+    }
+    expect(khz_start(t, KHZ_TRACKER_WORDS, 1, 1, 1, 65734) == KHZ_NO_SETTINGS, "a period of 65734 is taken for 198");
+    /* without a period its number is not looked at */
+    expect(khz_start(before, KHZ_TRACKER_WORDS, 1, 0, 0, 0) == KHZ_DONE && khz_start(t, KHZ_TRACKER_WORDS, 1, 0, 0, UINT64_MAX) == KHZ_DONE,
+           "khz_start without a period is refused");
+    expect(memcmp(before, t, sizeof t) == 0, "a period that is not set is kept");
+}
+
+/* An array that another version of the boundary wrote is no tracker. */
+static void versions(void)
+{
+    uint64_t t[KHZ_TRACKER_WORDS], records[KHZ_RECORD_NUMBERS] = {0};
+
+    expect(khz_start(t, KHZ_TRACKER_WORDS, 1, 1, 1, 198) == KHZ_DONE, "khz_start is refused");
+    expect((t[0] & 0xFF) == KHZ_API, "a tracker's mark does not carry KHZ_API");
+    t[0] ^= KHZ_API ^ (KHZ_API - 1);
+    expect(khz_packet(t, KHZ_TRACKER_WORDS, 0, 0, 0, 0, 0, 0, 2) == KHZ_NO_TRACKER, "khz_packet takes a tracker of an older version");
+    expect(khz_word(t, KHZ_TRACKER_WORDS, whole_case, KHZ_WORD_BYTES, records, KHZ_RECORD_NUMBERS).refusal == KHZ_NO_TRACKER, "khz_word does");
+    expect(khz_payload(t, KHZ_TRACKER_WORDS, whole_case, 0, records, KHZ_RECORD_NUMBERS).refusal == KHZ_NO_TRACKER, "khz_payload does");
+    expect(khz_reset(t, KHZ_TRACKER_WORDS) == KHZ_NO_TRACKER, "khz_reset does");
 }
 
 static void put(uint8_t *p, uint64_t n, int bytes)
@@ -148,12 +225,12 @@ static void files(void)
     expect(khz_check_file(f, n) == 5, "format 1 is not refused with 5");
     make_file(f, 1, one);
     put(f + 16 + 16, 4095, 2);
-    put(f + 16, UINT64_C(1) << 62, 8);
+    put(f + 16, KHZ_POSITION_MAX, 8);
     expect(khz_check_file(f, n) == 0, "the last BC or position is refused");
     put(f + 16 + 16, 4096, 2);
     expect(khz_check_file(f, n) == 5, "BC 4096 is not refused with 5");
     put(f + 16 + 16, 0, 2);
-    put(f + 16, (UINT64_C(1) << 62) + 1, 8);
+    put(f + 16, KHZ_POSITION_MAX + 1, 8);
     expect(khz_check_file(f, n) == 5, "a position above 2^62 is not refused with 5");
 
     n = make_file(f, 2, two);
@@ -177,6 +254,9 @@ int main(void)
 {
     case_by_words();
     case_by_payload();
+    packet_ranges();
+    setting_ranges();
+    versions();
     files();
     printf("boundary: %u checks, %u failed\n", checks, failed);
     return failed ? 1 : 0;

@@ -6,7 +6,7 @@
  *     R                                                      reset
  *     Y hex                                                  a payload: Y refusal words records ; position code first second ; ...
  *
- * A frame is `-`, `O` or `C:start:end`. A refused call prints `REFUSED number`; the Rust has no such answer.
+ * A frame is `-`, `O` or `C:start:end`. A refused call prints `REFUSED number`; the Rust has no such answer. A word may have any length from one byte on.
  *
  * With -c it also checks, at every call, what the header promises and the Rust can't say: that refusals come when and in the order that
  * they should and leave tracker and records bit for bit, that nothing behind the records is touched, that the answer's numbers are in
@@ -27,6 +27,7 @@
 #endif
 
 #include <inttypes.h>
+#include <stdbool.h>
 #include <stdio.h>
 #include <stdlib.h>
 #include <string.h>
@@ -346,7 +347,7 @@ static void check_no_tracker(void)
 }
 #endif
 
-static void start(bool running, bool frames, bool periodic, uint16_t period)
+static void start(uint64_t running, uint64_t frames, uint64_t periodic, uint64_t period)
 {
     tracker_array other;
 
@@ -361,8 +362,11 @@ static void start(bool running, bool frames, bool periodic, uint16_t period)
         uint8_t w[KHZ_WORD_BYTES] = {0};
         memset(&other, 0xC3, sizeof other);
         other.n[KHZ_TRACKER_WORDS] = tracker.n[KHZ_TRACKER_WORDS];
-        khz_start(other.n, KHZ_TRACKER_WORDS, running, frames, periodic, periodic ? period : (uint16_t)~period);
+        demand(khz_start(other.n, KHZ_TRACKER_WORDS, running, frames, periodic, periodic ? period : ~period) == 0, "khz_start is refused");
         demand(same_tracker(&other, &tracker), "what khz_start writes depends on what stood there, or on a period that is not set");
+        demand(khz_start(other.n, KHZ_TRACKER_WORDS, 2, frames, periodic, period) == 101, "khz_start takes a flag of 2");
+        demand(khz_start(other.n, KHZ_TRACKER_WORDS, running, frames, 1, period + 65536) == 101, "khz_start takes a period above 65,535");
+        demand(khz_start(other.n, KHZ_TRACKER_WORDS - 1, running, 2, periodic, period) == 100, "100 does not come before 101");
         demand(khz_start(other.n, KHZ_TRACKER_WORDS - 1, running, frames, periodic, period) == 100, "khz_start takes a short array");
         demand(khz_start(other.n, KHZ_TRACKER_WORDS + 1, !running, frames, periodic, period) == 100, "khz_start takes a long array");
         demand(khz_start(NULL, 0, running, frames, periodic, period) == 100, "khz_start takes no array");
@@ -375,29 +379,34 @@ static void start(bool running, bool frames, bool periodic, uint16_t period)
     begin_stretch();
 }
 
-static void must_refuse_packet(uint64_t position, uint16_t bc, uint8_t format)
+/* The packet with one field put out of its range. */
+static void must_refuse_packet(const uint64_t f[7], int field, uint64_t n)
 {
     tracker_array copy = tracker;
-    demand(khz_packet(copy.n, KHZ_TRACKER_WORDS, position, 1, 2, bc, 3, 4, format) == 5, "a packet field outside its range is not refused with 5");
-    demand(khz_packet(copy.n, KHZ_TRACKER_WORDS - 1, position, 1, 2, bc, 3, 4, format) == 100, "a packet on a short array is not refused with 100 before 5");
+    uint64_t g[7];
+
+    memcpy(g, f, sizeof g);
+    g[field] = n;
+    demand(khz_packet(copy.n, KHZ_TRACKER_WORDS, g[0], g[1], g[2], g[3], g[4], g[5], g[6]) == 5, "a packet field outside its range is not refused with 5");
+    demand(khz_packet(copy.n, KHZ_TRACKER_WORDS - 1, g[0], g[1], g[2], g[3], g[4], g[5], g[6]) == 100, "a packet on a short array is not refused with 100 before 5");
     demand(same_tracker(&copy, &tracker), "a refused packet changed the tracker");
 }
 
 static void packet(const uint64_t f[7])
 {
+    static const uint64_t last[7] = {KHZ_POSITION_MAX, UINT32_MAX, UINT32_MAX, 4095, UINT16_MAX, UINT8_MAX, 2};
     uint64_t r;
 
     end_stretch();
     if (checking) {
-        must_refuse_packet((UINT64_C(1) << 62) + 1, 0, 0);
-        must_refuse_packet(UINT64_MAX, 0, 2);
-        must_refuse_packet(0, 4096, 2);
-        must_refuse_packet(0, 65535, 0);
-        must_refuse_packet(0, 0, 1);
-        must_refuse_packet(0, 0, 3);
-        must_refuse_packet(0, 0, 255);
+        for (int i = 0; i < 7; i++) {
+            must_refuse_packet(f, i, last[i] + 1);
+            must_refuse_packet(f, i, last[i] + (UINT64_C(1) << 32));
+            must_refuse_packet(f, i, UINT64_MAX);
+        }
+        must_refuse_packet(f, 6, 1);
     }
-    r = khz_packet(tracker.n, KHZ_TRACKER_WORDS, f[0], (uint32_t)f[1], (uint32_t)f[2], (uint16_t)f[3], (uint16_t)f[4], (uint8_t)f[5], (uint8_t)f[6]);
+    r = khz_packet(tracker.n, KHZ_TRACKER_WORDS, f[0], f[1], f[2], f[3], f[4], f[5], f[6]);
     if (r != 0)
         printf("REFUSED %" PRIu64 "\n", r);
     else {
@@ -420,7 +429,7 @@ static void reset(void)
     begin_stretch();
 }
 
-static void word(const uint8_t *w)
+static void word(const uint8_t *w, size_t len)
 {
     static const char *const names[] = {"", "IHW", "IHW_continuation", "TDH", "TDH_after_packet_done", "TDH_continuation", "DataWord", "CDW", "TDT", "DDW0"};
     static uint64_t b[WORD_BUFFER + GUARD];
@@ -430,8 +439,9 @@ static void word(const uint8_t *w)
     if (checking)
         check_refusals(w, accepted, accepted && taken == KHZ_PACKET_WORDS);
     fill(b, WORD_BUFFER + GUARD);
-    a = khz_word(tracker.n, KHZ_TRACKER_WORDS, w, KHZ_WORD_BYTES, b, WORD_BUFFER);
+    a = khz_word(tracker.n, KHZ_TRACKER_WORDS, w, len, b, WORD_BUFFER);
     if (a.refusal != 0) {
+        demand(refused_word(a, a.refusal) && same_tracker(&before, &tracker) && untouched(b, 0, WORD_BUFFER + GUARD), "a refused word left a trace");
         printf("REFUSED %" PRIu64 "\n", a.refusal);
         return;
     }
@@ -443,7 +453,7 @@ static void word(const uint8_t *w)
     }
     demand(untouched(b, (size_t)a.records * KHZ_RECORD_NUMBERS, WORD_BUFFER + GUARD), "a word wrote behind its records");
     if (checking) {
-        demand(accepted && taken < KHZ_PACKET_WORDS, "a word that must be refused was taken");
+        demand(len == KHZ_WORD_BYTES && accepted && taken < KHZ_PACKET_WORDS, "a word that must be refused was taken");
         check_answer(w, a);
         check_word_again(&before, w, a, b);
         if (stretch.words < KHZ_PACKET_WORDS) {
@@ -540,9 +550,10 @@ int main(int argc, char **argv)
             packet(f);
             break;
         case 'W':
-            if (unhex(line + 2, bytes) != KHZ_WORD_BYTES)
+            n = unhex(line + 2, bytes);
+            if (n == 0)
                 bad_line();
-            word(bytes);
+            word(bytes, n);
             break;
         case 'R':
             reset();

@@ -74,7 +74,7 @@ unfoldable pub wordsBefore : List ℕ → ℕ → ℕ
 wordsBefore file zero = 0
 wordsBefore file (suc i) = wordsBefore file i + countAt file i
 
--- "6: file under 16 or over 60,000 bytes, packet or word offset other than stated below, or length not word offset + 10 times words"
+-- 6, "file under 16 or over 60,000 bytes, packet or word offset other than stated below, or length not word offset + 10 times words"
 unfoldable pub misfit : List ℕ → Bool
 misfit file =
     ltb (length file) headerBytes
@@ -83,7 +83,7 @@ misfit file =
     || (not (eqb (wordOffset file) (packetPlace (packets file)))
     || not (eqb (length file) (wordOffset file + wordBytes * words file)))))
 
--- "5: a packet field outside its stated range"; "3: in a file, a packet's count above 4,096". "per packet 5, 3"
+-- 5, "a packet field outside its stated range"; 3, "in a file, a packet's count above 4,096". "per packet 5, 3"
 abbrev pub packetRefusal : List ℕ → ℕ → ℕ
 packetRefusal file at = cond (inRange (packetOf file at)) (cond (leb (countOf file at) maxWords) 0 3) 5
 
@@ -95,7 +95,7 @@ firstRefusal file (suc n) i =
     (firstRefusal file n (suc i))
     (packetRefusal file (packetPlace i))
 
--- "7: packets' word counts don't sum to the header's". "File: 6, 7, then per packet 5, 3."
+-- 7, "packets' word counts don't sum to the header's". "File: 6, 7, then per packet 5, 3."
 unfoldable pub checkOf : List ℕ → ℕ
 checkOf file =
     cond (misfit file) 6 (cond (eqb (wordsBefore file (packets file)) (words file)) (firstRefusal file (packets file) 0) 7)

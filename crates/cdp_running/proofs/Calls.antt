@@ -36,14 +36,6 @@ periodic-kept s e =
     let same : s .period ≡ cond (s .periodic) (s .period) 0 = simp e in
     λ i. record { running = s .running; frames = s .frames; periodic = s .periodic; period = same i }
 
--- A packet's fields have the widths of their types: what is left to test.
-unfoldable pub tested : Packet → Bool
-tested p = leb (p .position) maxPosition && (leb (p .bc) 4095 && (eqb (p .format) 0 || eqb (p .format) 2))
-
-pub range-tested : (p : Packet) → p .orbit < 2 ^ 32 → p .trigger < 2 ^ 32 → p .page < 2 ^ 16 → p .stop < 2 ^ 8 → inRange p ≡ tested p
-unfolding tested
-range-tested p o t g s = simp (lt-ltb _ _ o, lt-ltb _ _ t, lt-ltb _ _ g, lt-ltb _ _ s)
-
 pub packet-refused : (t : Tracker) (p : Packet) → Good t → inRange p ≡ false → PacketPost t p (record { tracker = t; refusal = 5 })
 unfolding packetCall
 packet-refused t p g e = record { answer = simp e; good = g }

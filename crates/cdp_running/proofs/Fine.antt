@@ -81,12 +81,12 @@ module _ (t : Tracker) (w : Word) where
       let rows = rowsOf t a w in
       omega (arith, counted (positionNow t) rows, count-low rows, six (a .word) (a .guessed) t w)
 
-  -- "no record has code 990"
+  -- No record has code 990.
   pub none-990 : Each (λ r. Not990 (r .code)) (recordsOf t w)
   unfolding recordsOf
   none-990 = let a = takenAs t w in given-each (λ r. Not990 (r .code)) (positionNow t) (rowsOf t a w) (codes (a .word) (a .guessed) t w)
 
-  -- "positions are at most 2^62 + 64 + 16 * 4095"
+  -- Positions are at most 2^62 + 64 + 16 * 4095.
   pub positions : Good t → t .count < maxWords → Each (λ r. r .position ≤ mostPosition) (recordsOf t w)
   unfolding recordsOf
   positions g h = given-each (λ r. r .position ≤ mostPosition) (positionNow t) (rowsOf t (takenAs t w) w) (all (rowsOf t (takenAs t w) w))

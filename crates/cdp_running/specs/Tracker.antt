@@ -103,7 +103,7 @@ acceptOf t p =
       frame = t .frame;
     }
 
--- "5: a packet field outside its stated range; leaves everything."
+-- 5, "a packet field outside its stated range", leaves everything.
 unfoldable pub packetCall : Tracker → Packet → PacketAnswer
 packetCall t p =
     cond (inRange p) (record { tracker = acceptOf t p; refusal = 0 }) (record { tracker = t; refusal = 5 })

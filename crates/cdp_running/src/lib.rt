@@ -29,7 +29,7 @@ pub const MAX_WORDS: u16 = 4096;
 pub const MAX_POSITION: u64 = 0x4000_0000_0000_0000;
 
 // The largest BC of a packet.
-pub const MAX_PACKET_BC: u16 = 4095;
+pub const MAX_PACKET_BC: u64 = 4095;
 
 // Refusals of these calls, beside Word::REFUSED_SIZE.
 pub const REFUSED_NO_PACKET: u8 = 2;
@@ -97,12 +97,38 @@ pub struct PacketAnswer {
     pub refusal: u8,
 }
 
-// Whether each field of a packet is in its range. Those that fill their type are.
+// Whether each field of a packet is in its range, asked before any of them is made narrow.
+pub fn are_in_range(
+    position: u64,
+    orbit: u64,
+    trigger: u64,
+    bc: u64,
+    page: u64,
+    stop: u64,
+    format: u64,
+) -> bool
+    ensures { λ r. ⌜ r ≡ inRange (record { position = position; orbit = orbit; trigger = trigger; bc = bc; page = page; stop = stop; format = format }) ⌝ }
+{
+    (position <= MAX_POSITION)
+        & ((orbit < 0x1_0000_0000)
+            & ((trigger < 0x1_0000_0000)
+                & ((bc <= MAX_PACKET_BC)
+                    & ((page < 0x1_0000) & ((stop < 0x100) & ((format == 0) | (format == 2)))))))
+}
+
+// The same of a packet whose fields stand in their own types.
 pub fn in_range(packet: Packet) -> bool
     ensures { λ r. ⌜ r ≡ inRange packet ⌝ }
 {
-    (packet.position <= MAX_POSITION)
-        & ((packet.bc <= MAX_PACKET_BC) & ((packet.format == 0) | (packet.format == 2)))
+    are_in_range(
+        packet.position,
+        packet.orbit as u64,
+        packet.trigger as u64,
+        packet.bc as u64,
+        packet.page as u64,
+        packet.stop as u64,
+        packet.format as u64,
+    )
 }
 
 // Where the word after so many stands.

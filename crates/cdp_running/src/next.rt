@@ -118,7 +118,7 @@ pub fn frame(frames: bool, kind: ItsPayloadWord, word: Word, position: u64, old:
     }
 }
 
-fn frame_told(
+pub fn frame_told(
     frames: bool,
     kind: ItsPayloadWord,
     word: Word,
@@ -140,7 +140,7 @@ fn frame_told(
     }
 }
 
-fn lanes_told(kind: ItsPayloadWord, word: Word) -> u32
+pub fn lanes_told(kind: ItsPayloadWord, word: Word) -> u32
     ensures { λ r. ⌜ r ≡ lanesTold kind word ⌝ }
 {
     if kind.is_ihw() {

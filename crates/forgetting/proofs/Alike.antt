@@ -79,10 +79,6 @@ same-reset s =
       same-cdw = s .same-cdw;
     }
 
--- Of ten bytes there is one whole word.
-one-word : (b : List ℕ) (places : ℕ) → 6 * (length b / 10) ≤ places → length b ≡ 10 → 6 ≤ places
-one-word b places h e = let one : length b / 10 ≡ 1 = rw e refl in omega arith
-
 payload-alike : (m : Met) (t u : Tracker) (b : List ℕ) (places : ℕ) → Same m t u → 6 * (length b / 10) ≤ places
     → Both m t u b (payloadCalls t b places) (payloadCalls u b places)
 unfolding payloadCalls kindsIn tookIn meetsAll total
@@ -114,7 +110,7 @@ call-agrees m t u (packet p) s _ = record { kinds-agree = number (inRange p); sa
     tracker true = same-accept p s
     tracker false = s
 call-agrees m t u (word b buffer) s h =
-    let both = at refl (word-alike b (room buffer) (room buffer) s (one-word b (room buffer) h) (one-word b (room buffer) h)) in
+    let both = at refl (word-alike b (room buffer) (room buffer) s h h) in
     record { kinds-agree = both .0; same = both .1 }
   where
     at : {o o′ : Outcome} → wordCall t b (room buffer) ≡ o → Alike m t (wordOf b) o o′

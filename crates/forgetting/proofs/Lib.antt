@@ -3,5 +3,6 @@ pub mod Marker
 pub mod Same
 pub mod Alike
 pub mod Forgetting
+pub mod Arrays
 pub mod Differ
 pub mod Edges

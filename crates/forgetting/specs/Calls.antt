@@ -16,7 +16,7 @@ use Rattle.cdp_running.specs.Word as Word
 use Rattle.cdp_running.specs.Word.{Outcome, taken, refused, wordCall}
 use Rattle.payload.specs.Payload.{Run, payloadCall, payloadCalls}
 
--- "calls (packet, word, payload, reset; any bytes, any lengths)": a word and a payload are bytes, and a record buffer that is lent.
+-- A call: a packet, a word, a payload or a reset. A word and a payload are any bytes, and a record buffer that is lent.
 pub data Call : Type 0 where
   packet : Packet → Call
   word : List ℕ → List ℕ → Call
@@ -69,7 +69,7 @@ wordsOf t (word bytes buffer) = wordCall t bytes (room buffer) ∷ []
 wordsOf t (payload bytes buffer) = payloadCalls t bytes (room buffer)
 wordsOf t reset = []
 
--- "the refusals and the word kinds, guesses included"
+-- Refusals and word kinds, guesses included.
 pub data Kind : Type 0 where
   kind : ItsPayloadWord → (guessed : Bool) → Kind
   refusal : ℕ → Kind

@@ -1,4 +1,4 @@
--- Promise 3, "The past is forgotten in time": what two trackers accept first, what the equal calls are, what they meet, and what then agrees.
+-- Promise 3, the past is forgotten in time (docs/RULES.md): what two trackers accept first, what the equal calls are, what they meet, and what then agrees.
 -- Assumes nothing.
 use Prim.Native.Nat.{ℕ, _*_, _/_, _≤_}
 use mathlib.Core.Path.{_≡_}
@@ -17,15 +17,15 @@ use Rattle.cdp_running.specs.declared.Tracker.{Tracker}
 use Rattle.cdp_running.specs.Tracker.{inRange}
 use Rattle.forgetting.specs.Calls.{Call, packet, word, payload, reset, run, answers, kinds, Took, took, wordsIn}
 
--- "no reset between"
+-- No reset between.
 abbrev pub NoReset : Call → Type 0
 NoReset (packet p) = Unit
 NoReset (word bytes buffer) = Unit
 NoReset (payload bytes buffer) = Unit
 NoReset reset = ⊥
 
--- "Each accepts three data words with bit 13 clear, then a TDT with packet done, its own words in its own packets, one after another with no reset
--- between; packets, and calls that are refused, may stand between." The last four words that calls took, of any that they took.
+-- A tracker accepts the marker: the last four words that its calls took are three data words with bit 13 clear and a TDT with packet done, and there is no
+-- reset between. Packets, and calls that are refused, may stand between the four. Each tracker has words and packets of its own.
 pub record AcceptedMarker (t : Tracker) (calls : List Call) : Type 0 where
   pub earlier : List Word
   pub one : Word
@@ -39,14 +39,14 @@ pub record AcceptedMarker (t : Tracker) (calls : List Call) : Type 0 where
   pub tdt-done : TdtDone last
   pub no-reset : Each NoReset calls
 
--- "every record buffer with room for six records for each whole word that it is lent to"
+-- Each record buffer has room for six records for each whole word that it is lent to. A word that is not ten bytes needs none.
 abbrev pub Roomy : Call → Type 0
 Roomy (packet p) = Unit
-Roomy (word bytes buffer) = mostRecords * (length bytes / wordBytes) ≤ room buffer
+Roomy (word bytes buffer) = length bytes ≡ wordBytes → mostRecords ≤ room buffer
 Roomy (payload bytes buffer) = mostRecords * (length bytes / wordBytes) ≤ room buffer
 Roomy reset = Unit
 
--- "begin with an accepted packet"
+-- The calls begin with an accepted packet.
 abbrev pub Begins : List Call → Type 0
 Begins [] = ⊥
 Begins (packet p ∷ calls) = inRange p ≡ true
@@ -54,7 +54,7 @@ Begins (word bytes buffer ∷ calls) = ⊥
 Begins (payload bytes buffer ∷ calls) = ⊥
 Begins (reset ∷ calls) = ⊥
 
--- "a word was taken as IHW (or IHW continuation), one as TDH (of any of its three kinds) with internal trigger, and a CDW as the first data of a packet"
+-- A word was taken as IHW or IHW continuation, one as a TDH of any kind with internal trigger, and a CDW as the first data of a packet.
 abbrev pub asIhw : Took → Bool
 asIhw x = isIhw (x .kind)
 
@@ -68,14 +68,14 @@ unfoldable pub some : (Took → Bool) → List Took → Bool
 some test [] = false
 some test (x ∷ xs) = test x || some test xs
 
--- "in any order"
+-- All three were met, in any order.
 pub record HasMet (xs : List Took) : Type 0 where
   pub ihw : some asIhw xs ≡ true
   pub internal-tdh : some asInternalTdh xs ≡ true
   pub first-cdw : some asFirstCdw xs ≡ true
 
--- Two trackers after calls, and later calls: "the refusals and the word kinds, guesses included, agree at once and for ever"; once all was met the
--- trackers are the same, and "all later calls' answers and all bytes of the record buffers agree, for ever".
+-- Two trackers after calls, and later calls: refusals and word kinds, guesses included, agree at once and for ever. Once all three were met the trackers are
+-- the same, and so are all later answers and all numbers of the record buffers.
 pub record Forgotten (t u : Tracker) (calls later : List Call) : Type 0 where
   pub kinds-agree : kinds t (calls ++ later) ≡ kinds u (calls ++ later)
   pub trackers-agree : HasMet (took t calls) → run t calls ≡ run u calls

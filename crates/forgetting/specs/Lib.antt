@@ -1,4 +1,5 @@
--- Promise 3: calls one after the other (Calls), and what it says of them (Forget); and 01's edges as a table (Edges).
+-- Promise 3: calls one after the other (Calls), what it says of them (Forget), and what callers of the C boundary see (Seen); and 01's edges as a table (Edges).
 pub mod Calls
 pub mod Forget
+pub mod Seen
 pub mod Edges

@@ -1,79 +1,108 @@
 -- What each return of the exported functions hands over, over plain variables.
 -- Assumes nothing.
-use Prim.Native.Nat.{ℕ}
-use mathlib.Core.Path.{_≡_, ap, sym, _∙_}
+use Prim.Native.Nat.{ℕ, _≤_}
+use mathlib.Core.Path.{_≡_, refl, ap, sym, _∙_}
+use mathlib.Core.Bool.{Bool, true, false, cond, not}
 use mathlib.Core.List.{List}
 use lib.ListN.{length}
-use borrow.Author.Tests.{eq-eqb, ne-eqb}
-use Rattle.validators.specs.declared.Settings.{Settings}
+use borrow.Author.Tests.{eqb-true, eq-eqb, ne-eqb, not-true, not-false}
+use Rattle.words.proofs.Tests.{tests}
 use Rattle.validators.specs.declared.Packet.{Packet}
 use Rattle.cdp_running.specs.declared.Tracker.{Tracker}
-use Rattle.cdp_running.specs.declared.PacketAnswer.{PacketAnswer}
-use Rattle.cdp_running.specs.declared.WordAnswer.{WordAnswer}
+use Rattle.cdp_running.specs.declared.Told.{Told}
 use Rattle.cdp_running.specs.declared.Told.the-variants.{Refused}
-use Rattle.cdp_running.specs.Tracker.{startOf, resetOf, PacketPost}
-use Rattle.cdp_running.specs.Word.{WordPost}
-use Rattle.payload.specs.declared.PayloadAnswer.{PayloadAnswer}
-use Rattle.payload.specs.Payload.{PayloadPost}
-use Rattle.tracker_array.specs.declared.Decoded.the-variants.{Is, Not}
-use Rattle.tracker_array.specs.Array.{encodeOf, writtenTo}
-use Rattle.tracker_array.specs.Read.{decodeOf}
-use Rattle.tracker_array.proofs.Stores.{wrote}
-use Rattle.tracker_array.proofs.Laws.{decoded-long}
+use Rattle.cdp_running.specs.Tracker.{startOf}
+use Rattle.tracker_array.specs.Array.{writtenTo}
+use Rattle.tracker_array.specs.Read.{isOn, trackerIn, isTracker, Is, Not, decodeOf}
+use Rattle.tracker_array.specs.Good.{GoodArray}
+use Rattle.tracker_array.proofs.Laws.{is-tracker, no-tracker, good-array}
+use Rattle.in_place.specs.declared.PayloadTold.{PayloadTold}
+use Rattle.in_place.specs.Calls.{PacketInPlace, ResetInPlace, WordInPlace, PayloadInPlace}
 use Rattle.khandzorul.specs.declared.WordNumbers.{WordNumbers}
-use Rattle.khandzorul.specs.Answer.{noTracker, toldNumbers}
-use Rattle.khandzorul.specs.Calls.{StartOn, PacketOn, ResetOn, WordOn, PayloadOn}
+use Rattle.khandzorul.specs.Answer.{noTracker, noSettings, toldNumbers}
+use Rattle.khandzorul.specs.Calls.{Asked, maxPeriod, areSettings, StartOn, PacketOn, ResetOn, WordOn, PayloadOn}
 
-module _ (a : List ℕ) (s : Settings) where
+-- A period of settings fits, where there is one.
+pub period-fits : (s : Asked) → areSettings s ≡ true → isOn (s .periodic) ≡ true → s .period ≤ maxPeriod
+period-fits s e on = let (running, (frames, (periodic, low))) = simp tests at e in low (eqb-true _ _ on)
+
+-- The start keeps nothing of a period that is absent.
+absent : (running frames periodic : Bool) (m : ℕ) {n : ℕ} → n ≡ cond periodic m 0
+    → startOf (record { running = running; frames = frames; periodic = periodic; period = n })
+    ≡ startOf (record { running = running; frames = frames; periodic = periodic; period = m })
+absent running frames true m e = ap (λ (k : ℕ). startOf (record { running = running; frames = frames; periodic = true; period = k })) e
+absent running frames false m e = refl
+
+stays : (b : Bool) (a : List ℕ) → a ≡ cond b a a
+stays true a = refl
+stays false a = refl
+
+module _ (a : List ℕ) (s : Asked) where
   pub start-none : (length a ≡ 32 → ⊥) → StartOn a s noTracker a
-  start-none h = record { answer = simp (ne-eqb _ _ h); tracker = simp (ne-eqb _ _ h) }
+  start-none h = record { answer = simp (ne-eqb _ _ h); tracker = simp (ne-eqb _ _ h) (stays (areSettings s) a) }
 
-  pub start-done : {t : Tracker} {after : List ℕ} → length a ≡ 32 → t ≡ startOf s → after ≡ writtenTo a t → StartOn a s 0 after
-  start-done h p q = record { answer = simp (eq-eqb _ _ h); tracker = q ∙ ap (writtenTo a) p }
+  module _ (long : length a ≡ 32) {r : Bool} (asked : r ≡ areSettings s) where
+    pub start-refused : not r ≡ true → StartOn a s noSettings a
+    start-refused e = let no = sym asked ∙ not-true r e in record { answer = simp (eq-eqb _ _ long, no); tracker = simp no }
 
--- Where there is no tracker, 100, and all stays.
-module _ (a : List ℕ) (e : decodeOf a ≡ Not) where
-  pub packet-none : {p : Packet} → PacketOn a p noTracker a
-  packet-none = record { answer = simp e; tracker = simp e }
+    pub settings-fit : not r ≡ false → isOn (s .periodic) ≡ true → s .period ≤ maxPeriod
+    settings-fit e = period-fits s (sym asked ∙ not-false r e)
 
-  pub reset-none : ResetOn a noTracker a
-  reset-none = record { answer = simp e; tracker = simp e }
+    pub start-done : {t : Tracker} {n : ℕ} {after : List ℕ} → not r ≡ false → n ≡ cond (isOn (s .periodic)) (s .period) 0
+        → t ≡ startOf (record { running = isOn (s .running); frames = isOn (s .frames); periodic = isOn (s .periodic); period = n }) → after ≡ writtenTo a t
+        → StartOn a s 0 after
+    start-done e k p q =
+        let yes = sym asked ∙ not-false r e in
+        record {
+          answer = simp (eq-eqb _ _ long, yes);
+          tracker = simp yes (q ∙ ap (writtenTo a) (p ∙ absent (isOn (s .running)) (isOn (s .frames)) (isOn (s .periodic)) (s .period) k));
+        }
 
-  pub word-none : {bytes buffer : List ℕ} {r : WordNumbers} → r ≡ toldNumbers (Refused noTracker) → WordOn a bytes buffer r a buffer
-  word-none p = record { answer = simp e p; tracker = simp e; buffer-is = simp e }
+-- Whether numbers are a tracker, as the code asks it: r is its answer.
+module _ (a : List ℕ) {r : Bool} (asked : r ≡ isTracker a) where
+  -- Where there is no tracker, 100, and all stays.
+  module _ (no : not r ≡ true) where
+    none : decodeOf a ≡ Not
+    none = sym (no-tracker a (sym asked ∙ not-true r no))
 
-  pub payload-none : {bytes buffer : List ℕ} → PayloadOn a bytes buffer (record { refusal = noTracker; words = 0; records = 0 }) a buffer
-  payload-none = record { answer = simp e; tracker = simp e; buffer-is = simp e }
+    pub packet-none : {p : Packet} → PacketOn a p noTracker a
+    packet-none = record { answer = simp none; tracker = simp none }
 
--- Where there is one, what the call on it gives.
-module _ (a : List ℕ) (t : Tracker) (e : decodeOf a ≡ Is t) where
-  wrote-it : {after : List ℕ} (u : Tracker) → after ≡ writtenTo a u → after ≡ encodeOf u
-  wrote-it u q = q ∙ sym (wrote a u (decoded-long a t e))
+    pub reset-none : ResetOn a noTracker a
+    reset-none = record { answer = simp none; tracker = simp none }
 
-  pub packet-done : (p : Packet) {r : PacketAnswer} {after : List ℕ} → PacketPost t p r → after ≡ writtenTo a (r .tracker) → PacketOn a p (r .refusal) after
-  packet-done p {r} w q =
-      record {
-        answer = rw e (ap (λ (x : PacketAnswer). x .refusal) (w .answer));
-        tracker = rw e (wrote-it (r .tracker) q ∙ ap (λ (x : PacketAnswer). encodeOf (x .tracker)) (w .answer));
-      }
+    pub word-none : {bytes buffer : List ℕ} {n : WordNumbers} → n ≡ toldNumbers (Refused noTracker) → WordOn a bytes buffer n a buffer
+    word-none p = record { answer = simp none p; tracker = simp none; buffer-is = simp none }
 
-  pub reset-done : {u : Tracker} {after : List ℕ} → u ≡ resetOf t → after ≡ writtenTo a u → ResetOn a 0 after
-  reset-done {u} p q = record { answer = rw e; tracker = rw e (wrote-it u q ∙ ap encodeOf p) }
+    pub payload-none : {bytes buffer : List ℕ} → PayloadOn a bytes buffer (record { refusal = noTracker; words = 0; records = 0 }) a buffer
+    payload-none = record { answer = simp none; tracker = simp none; buffer-is = simp none }
 
-  pub word-done : (bytes buffer : List ℕ) {r : WordAnswer} {n : WordNumbers} {after buffer-after : List ℕ} → WordPost t bytes buffer r buffer-after
-      → n ≡ toldNumbers (r .told) → after ≡ writtenTo a (r .tracker) → WordOn a bytes buffer n after buffer-after
-  word-done bytes buffer {r} w p q =
-      record {
-        answer = rw e (p ∙ ap (λ (x : WordAnswer). toldNumbers (x .told)) (w .answer));
-        tracker = rw e (wrote-it (r .tracker) q ∙ ap (λ (x : WordAnswer). encodeOf (x .tracker)) (w .answer));
-        buffer-is = rw e (w .buffer-is);
-      }
+  -- Where there is one, what the call on its numbers gives.
+  module _ (yes : not r ≡ false) where
+    one : isTracker a ≡ true
+    one = sym asked ∙ not-false r yes
 
-  pub payload-done : (bytes buffer : List ℕ) {r : PayloadAnswer} {after buffer-after : List ℕ} → PayloadPost t bytes buffer r buffer-after
-      → after ≡ writtenTo a (r .tracker) → PayloadOn a bytes buffer (record { refusal = r .refusal; words = r .words; records = r .records }) after buffer-after
-  payload-done bytes buffer {r} w q =
-      record {
-        answer = rw e (ap (λ (x : PayloadAnswer). record { refusal = x .refusal; words = x .words; records = x .records }) (w .answer));
-        tracker = rw e (wrote-it (r .tracker) q ∙ ap (λ (x : PayloadAnswer). encodeOf (x .tracker)) (w .answer));
-        buffer-is = rw e (w .buffer-is);
-      }
+    pub is-good : GoodArray a
+    is-good = good-array a one
+
+    is : decodeOf a ≡ Is (trackerIn a)
+    is = sym (is-tracker a refl one)
+
+    pub packet-done : {p : Packet} {n : ℕ} {after : List ℕ} → PacketInPlace a p n after → PacketOn a p n after
+    packet-done w = record { answer = rw is (w .answer); tracker = rw is (w .numbers) }
+
+    pub reset-done : {after : List ℕ} → ResetInPlace a after → ResetOn a 0 after
+    reset-done w = record { answer = rw is; tracker = rw is (w .numbers) }
+
+    pub word-done : {bytes buffer : List ℕ} {told : Told} {n : WordNumbers} {after buffer-after : List ℕ} → WordInPlace a bytes buffer told after buffer-after
+        → n ≡ toldNumbers told → WordOn a bytes buffer n after buffer-after
+    word-done w p = record { answer = rw is (p ∙ ap toldNumbers (w .answer)); tracker = rw is (w .numbers); buffer-is = rw is (w .buffer-is) }
+
+    pub payload-done : {bytes buffer : List ℕ} {told : PayloadTold} {after buffer-after : List ℕ} → PayloadInPlace a bytes buffer told after buffer-after
+        → PayloadOn a bytes buffer (record { refusal = told .refusal; words = told .words; records = told .records }) after buffer-after
+    payload-done w =
+        record {
+          answer = rw is (ap (λ (x : PayloadTold). record { refusal = x .refusal; words = x .words; records = x .records }) (w .answer));
+          tracker = rw is (w .numbers);
+          buffer-is = rw is (w .buffer-is);
+        }

@@ -9,7 +9,6 @@ use lib.Dec.{eqb}
 use lib.ListN.{length, take}
 use borrow.Author.Tests.{eq-eqb}
 use Rattle.records.specs.Records.{Record, flat, room, over}
-use Rattle.validators.specs.declared.Settings.{Settings}
 use Rattle.validators.specs.declared.Packet.{Packet}
 use Rattle.cdp_running.specs.declared.Tracker.{Tracker}
 use Rattle.cdp_running.specs.declared.Told.the-variants.{Refused}
@@ -18,23 +17,24 @@ use Rattle.cdp_running.specs.Word as Word
 use Rattle.cdp_running.specs.Word.{Outcome, taken, refused, wordCall}
 use Rattle.payload.specs.Payload.{Run, stop, wordsFrom, payloadCall}
 use Rattle.payload.proofs.Run.{step-taken, step-refused}
-use Rattle.tracker_array.specs.declared.Decoded.{Decoded}
-use Rattle.tracker_array.specs.declared.Decoded.the-variants.{Is, Not}
 use Rattle.tracker_array.specs.Array.{encodeOf}
-use Rattle.tracker_array.specs.Read.{decodeOf}
+use Rattle.tracker_array.specs.Read.{Decoded, Is, Not, decodeOf}
 use Rattle.tracker_array.proofs.Laws.{decode-encode, decoded-good, decoded-encodes}
 use Rattle.khandzorul.specs.declared.WordNumbers.{WordNumbers}
 use Rattle.khandzorul.specs.declared.PayloadNumbers.{PayloadNumbers}
-use Rattle.khandzorul.specs.Answer.{noTracker, toldNumbers}
-use Rattle.khandzorul.specs.Calls.{StartOn, PacketOn, ResetOn, WordOn, PayloadOn}
-use Rattle.khandzorul.proofs.Kept.{Kept, kept-start, kept-reset, kept-packet, kept-word, kept-payload}
+use Rattle.khandzorul.specs.Answer.{noTracker, noSettings, toldNumbers}
+use Rattle.khandzorul.specs.Calls.{Asked, areSettings, settingsFrom, StartOn, PacketOn, ResetOn, WordOn, PayloadOn}
+use Rattle.khandzorul.proofs.Exports.{period-fits}
+use Rattle.in_place.proofs.Kept.{Kept, kept-start, kept-reset, kept-packet, kept-word, kept-payload}
 
 -- The numbers of a tracker are that tracker.
 again : {t : Tracker} {after : List ℕ} → after ≡ encodeOf t → Kept t → decodeOf after ≡ Is t
 again {t} {after} p k = ap decodeOf p ∙ decode-encode t (k .0) (k .1)
 
-pub start-holds : (a : List ℕ) (s : Settings) {r : ℕ} {after : List ℕ} → StartOn a s r after → s .period < 2 ^ 16 → length a ≡ 32 → decodeOf after ≡ Is (startOf s)
-start-holds a s w h l = again (simp (eq-eqb _ _ l) at (w .tracker)) (kept-start s h)
+pub start-holds : (a : List ℕ) (s : Asked) {r : ℕ} {after : List ℕ} → StartOn a s r after → areSettings s ≡ true → length a ≡ 32
+    → decodeOf after ≡ Is (startOf (settingsFrom s))
+start-holds a s w h l =
+    again (simp (h, eq-eqb _ _ l) at (w .tracker)) (kept-start (settingsFrom s) (λ on. let low = period-fits s h on in omega arith))
 
 module _ (a : List ℕ) (t : Tracker) (e : decodeOf a ≡ Is t) where
   kept : Kept t
@@ -55,12 +55,14 @@ module _ (a : List ℕ) (t : Tracker) (e : decodeOf a ≡ Is t) where
   payload-holds bytes buffer w = again (rw e at (w .tracker)) (kept-payload t bytes (room buffer) kept)
 
 -- A refused start, packet or reset leaves the numbers as they were.
-pub start-refused : (a : List ℕ) (s : Settings) {r : ℕ} {after : List ℕ} → StartOn a s r after → (r ≡ 0 → ⊥) → after ≡ a
-start-refused a s {r} {after} w h = at (eqb (length a) 32) (w .answer) (w .tracker)
+pub start-refused : (a : List ℕ) (s : Asked) {r : ℕ} {after : List ℕ} → StartOn a s r after → (r ≡ 0 → ⊥) → after ≡ a
+start-refused a s {r} {after} w h = at (eqb (length a) 32) (areSettings s) (w .answer) (w .tracker)
   where
-    at : (b : Bool) → r ≡ cond b 0 noTracker → after ≡ cond b (encodeOf (startOf s)) a → after ≡ a
-    at true p q = absurd (h p)
-    at false p q = q
+    at : (long are : Bool) → r ≡ cond long (cond are 0 noSettings) noTracker → after ≡ cond are (cond long (encodeOf (startOf (settingsFrom s))) a) a → after ≡ a
+    at true true p q = absurd (h p)
+    at true false p q = q
+    at false true p q = q
+    at false false p q = q
 
 pub packet-refused : (a : List ℕ) (p : Packet) {r : ℕ} {after : List ℕ} → PacketOn a p r after → (r ≡ 0 → ⊥) → after ≡ a
 unfolding packetCall

@@ -4,14 +4,13 @@ use Prim.Native.Nat.{ℕ}
 use mathlib.Core.Path.{_≡_}
 use mathlib.Core.List.{List}
 use Rattle.words.proofs.Unique.{unique}
-use Rattle.validators.specs.declared.Settings.{Settings}
 use Rattle.validators.specs.declared.Packet.{Packet}
 use Rattle.bench_file.specs.File.{checkOf}
 use Rattle.khandzorul.specs.declared.WordNumbers.{WordNumbers}
 use Rattle.khandzorul.specs.declared.PayloadNumbers.{PayloadNumbers}
-use Rattle.khandzorul.specs.Calls.{StartOn, PacketOn, ResetOn, WordOn, PayloadOn}
+use Rattle.khandzorul.specs.Calls.{Asked, StartOn, PacketOn, ResetOn, WordOn, PayloadOn}
 
-pub start-unique : {a after after′ : List ℕ} {s : Settings} {first second : ℕ} → StartOn a s first after → StartOn a s second after′ → (first ≡ second) × (after ≡ after′)
+pub start-unique : {a after after′ : List ℕ} {s : Asked} {first second : ℕ} → StartOn a s first after → StartOn a s second after′ → (first ≡ second) × (after ≡ after′)
 start-unique u v = (unique (u .answer) (v .answer), unique (u .tracker) (v .tracker))
 
 pub packet-unique : {a after after′ : List ℕ} {p : Packet} {first second : ℕ} → PacketOn a p first after → PacketOn a p second after′ → (first ≡ second) × (after ≡ after′)

@@ -7,9 +7,12 @@ use Rattle.payload.specs.declared.PayloadAnswer.{PayloadAnswer}
 use Rattle.khandzorul.specs.declared.WordNumbers.{WordNumbers}
 use Rattle.khandzorul.specs.declared.PayloadNumbers.{PayloadNumbers}
 
--- What was handed in is no tracker.
+-- Refusals of the boundary alone: what was handed in is no tracker; a setting is out of its range.
 abbrev pub noTracker : ℕ
 noTracker = 100
+
+abbrev pub noSettings : ℕ
+noSettings = 101
 
 -- A word's answer: "A refusal returns its number and zeros".
 abbrev pub crossed : Numbers → WordNumbers

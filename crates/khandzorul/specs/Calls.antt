@@ -3,9 +3,9 @@
 -- Assumes nothing.
 use Prim.Native.Nat.{ℕ}
 use mathlib.Core.Path.{_≡_}
-use mathlib.Core.Bool.{cond}
+use mathlib.Core.Bool.{Bool, cond, not, _&&_, _||_}
 use mathlib.Core.List.{List}
-use lib.Dec.{eqb}
+use lib.Dec.{leb, eqb}
 use lib.ListN.{length}
 use Rattle.records.specs.Records.{flat, room, over}
 use Rattle.validators.specs.declared.Settings.{Settings}
@@ -17,23 +17,39 @@ use Rattle.cdp_running.specs.Word as Word
 use Rattle.cdp_running.specs.Word.{wordCall, recordsIn}
 use Rattle.payload.specs.Payload as Payload
 use Rattle.payload.specs.Payload.{payloadCall}
-use Rattle.tracker_array.specs.declared.Decoded.{Decoded}
-use Rattle.tracker_array.specs.declared.Decoded.the-variants.{Is, Not}
 use Rattle.tracker_array.specs.Array.{size, encodeOf, writtenTo}
-use Rattle.tracker_array.specs.Read.{decodeOf}
+use Rattle.tracker_array.specs.Read.{isOn, isFlag, Decoded, Is, Not, decodeOf}
 use Rattle.khandzorul.specs.declared.WordNumbers.{WordNumbers}
 use Rattle.khandzorul.specs.declared.PayloadNumbers.{PayloadNumbers}
-use Rattle.khandzorul.specs.Answer.{noTracker, toldNumbers, paidNumbers}
+use Rattle.khandzorul.specs.Answer.{noTracker, noSettings, toldNumbers, paidNumbers}
 
 -- What a call on a tracker gives, and what it gives where there is none.
 abbrev pub on : {A : Type 0} → Decoded → A → (Tracker → A) → A
 on (Is t) none call = call t
 on Not none call = none
 
--- khz_start: whatever stood there.
-pub record StartOn (a : List ℕ) (s : Settings) (r : ℕ) (after : List ℕ) : Type 0 where
-  pub answer : r ≡ cond (eqb (length a) size) 0 noTracker
-  pub tracker : after ≡ writtenTo a (startOf s)
+-- What khz_start is asked for, as it comes in: four numbers.
+pub record Asked : Type 0 where
+  pub running : ℕ
+  pub frames : ℕ
+  pub periodic : ℕ
+  pub period : ℕ
+
+-- "Settings, fixed at the start: running checks on or off, frames on or off, period absent or 0..65535."
+abbrev pub maxPeriod : ℕ
+maxPeriod = 65535
+
+abbrev pub areSettings : Asked → Bool
+areSettings s =
+    isFlag (s .running) && (isFlag (s .frames) && (isFlag (s .periodic) && (not (isOn (s .periodic)) || leb (s .period) maxPeriod)))
+
+abbrev pub settingsFrom : Asked → Settings
+settingsFrom s = record { running = isOn (s .running); frames = isOn (s .frames); periodic = isOn (s .periodic); period = s .period }
+
+-- khz_start: a tracker, whatever stood there. 100 comes first, then 101; either leaves the array.
+pub record StartOn (a : List ℕ) (s : Asked) (r : ℕ) (after : List ℕ) : Type 0 where
+  pub answer : r ≡ cond (eqb (length a) size) (cond (areSettings s) 0 noSettings) noTracker
+  pub tracker : after ≡ cond (areSettings s) (writtenTo a (startOf (settingsFrom s))) a
 
 -- khz_packet
 pub record PacketOn (a : List ℕ) (p : Packet) (r : ℕ) (after : List ℕ) : Type 0 where

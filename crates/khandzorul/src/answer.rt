@@ -1,15 +1,12 @@
 // Answers as the structs that cross to C.
 ghost use mathlib.Core.Path.{_≡_};
-ghost use mathlib.Core.Bool.{cond, false};
-ghost use Rattle.payload_fsm.specs.declared.ItsPayloadWord.the-variants as K;
-ghost use Rattle.cdp_running.specs.declared.FrameTold.the-variants as F;
+ghost use mathlib.Core.Bool.{cond};
 ghost use Rattle.cdp_running.specs.declared.Told.the-variants as T;
 ghost use Rattle.cdp_running.specs.Answer.{frameNumber, frameStart, frameEnd};
 ghost use Rattle.khandzorul.specs.Answer.{toldNumbers};
 use crate::WordNumbers;
 use cdp_running::FrameTold;
 use cdp_running::Told;
-use payload_fsm::ItsPayloadWord;
 
 fn flag(b: bool) -> u64
     ensures { λ r. ⌜ r ≡ cond b 1 0 ⌝ }
@@ -54,22 +51,6 @@ pub(crate) fn refused(n: u64) -> WordNumbers
     WordNumbers {
         refusal: n,
         kind: 0,
-        guessed: 0,
-        records: 0,
-        frame: 0,
-        start: 0,
-        end: 0,
-        lanes: 0,
-    }
-}
-
-// A data word that gave no record.
-pub(crate) fn data_word() -> WordNumbers
-    ensures { λ r. ⌜ r ≡ toldNumbers (T.Taken K.DataWord false 0 F.Nothing 0) ⌝ }
-{
-    WordNumbers {
-        refusal: 0,
-        kind: payload_fsm::kind_number(ItsPayloadWord::DataWord) as u64,
         guessed: 0,
         records: 0,
         frame: 0,

@@ -1,22 +1,25 @@
 // The C boundary: the exported functions of include/khandzorul.h. The caller owns all memory. None of them asks anything of the caller: an array
 // that is no tracker is answered by 100 and left as it was.
 ghost use mathlib.Core.Path.{_≡_};
+ghost use mathlib.Core.Bool.{true, cond};
+ghost use Prim.Native.Nat.{_≤_};
 ghost use Rattle.bench_file.specs.File.{checkOf};
-ghost use Rattle.khandzorul.specs.Quiet.{quietWord};
-ghost use Rattle.khandzorul.specs.Calls.{StartOn, PacketOn, ResetOn, WordOn, PayloadOn};
+ghost use Rattle.tracker_array.specs.Read.{isOn};
+ghost use Rattle.khandzorul.specs.Calls.{maxPeriod, areSettings, StartOn, PacketOn, ResetOn, WordOn, PayloadOn};
 
 mod answer;
 
 use cdp_running::Tracker;
-use payload::quiet;
-use tracker_array::Decoded;
-use tracker_array::place;
-use validators::Packet;
 use validators::Settings;
-use words::Word;
 
 // What was handed in is no tracker.
 pub const NO_TRACKER: u64 = 100;
+
+// A setting is out of its range.
+pub const NO_SETTINGS: u64 = 101;
+
+// The largest period.
+const MAX_PERIOD: u64 = 65535;
 
 // khz_word_answer
 #[repr(C)]
@@ -39,100 +42,78 @@ pub struct PayloadNumbers {
     pub records: u64,
 }
 
+// Whether numbers are settings: flags that are 0 or 1, and a period that fits where there is one.
+fn are_settings(running: u64, frames: u64, periodic: u64, period: u64) -> bool
+    ensures { λ r. ⌜ r ≡ areSettings (record { running = running; frames = frames; periodic = periodic; period = period }) ⌝ }
+{
+    (running <= 1)
+        & ((frames <= 1) & ((periodic <= 1) & (!(periodic == 1) | (period <= MAX_PERIOD))))
+}
+
+// The period that is kept: none is 0.
+fn period_of(periodic: u64, period: u64) -> u16
+    requires { ⌜ (isOn periodic ≡ true → period ≤ maxPeriod) ⌝ }
+    ensures { λ r. ⌜ r ≡ cond (isOn periodic) period 0 ⌝ }
+{
+    if periodic == 1 { period as u16 } else { 0 }
+}
+
 // Makes a tracker, whatever stood in the array.
 #[no_mangle]
 pub extern "C" fn khz_start(
     tracker: &mut [u64],
-    running: bool,
-    frames: bool,
-    periodic: bool,
-    period: u16,
+    running: u64,
+    frames: u64,
+    periodic: u64,
+    period: u64,
 ) -> u64
     ensures { λ r. ⌜ StartOn (now (tracker .entry)) (record { running = running; frames = frames; periodic = periodic; period = period }) r (now (tracker .exit)) ⌝ }
 {
     if tracker.len() != tracker_array::SIZE {
         return NO_TRACKER;
     }
+    if !are_settings(running, frames, periodic, period) {
+        return NO_SETTINGS;
+    }
     let settings = Settings {
-        running: running,
-        frames: frames,
-        periodic: periodic,
-        period: period,
+        running: running == 1,
+        frames: frames == 1,
+        periodic: periodic == 1,
+        period: period_of(periodic, period),
     };
     tracker_array::encode(Tracker::start(settings), tracker);
     0
 }
 
-// Begins a packet.
+// Begins a packet. Its ranges are asked of the numbers as they come in.
 #[no_mangle]
 pub extern "C" fn khz_packet(
     tracker: &mut [u64],
     position: u64,
-    orbit: u32,
-    trigger: u32,
-    bc: u16,
-    page: u16,
-    stop: u8,
-    format: u8,
+    orbit: u64,
+    trigger: u64,
+    bc: u64,
+    page: u64,
+    stop: u64,
+    format: u64,
 ) -> u64
     ensures { λ r. ⌜ PacketOn (now (tracker .entry)) (record { position = position; orbit = orbit; trigger = trigger; bc = bc; page = page; stop = stop; format = format }) r (now (tracker .exit)) ⌝ }
 {
-    let Decoded::Is(t) = tracker_array::decode(tracker) else {
+    if !tracker_array::is_tracker(tracker) {
         return NO_TRACKER;
-    };
-    let packet = Packet {
-        position: position,
-        orbit: orbit,
-        trigger: trigger,
-        bc: bc,
-        page: page,
-        stop: stop,
-        format: format,
-    };
-    let answer = t.packet(packet);
-    tracker_array::encode(answer.tracker, tracker);
-    answer.refusal as u64
-}
-
-// Whether a word is a data word that gives no record, told by the numbers alone.
-fn is_quiet(tracker: &[u64], word: &[u8]) -> bool
-    ensures { λ r. ⌜ r ≡ quietWord (now (tracker .entry)) (now (word .entry)) ⌝ }
-{
-    if word.len() != Word::SIZE {
-        return false;
     }
-    if !tracker_array::takes_data(tracker) {
-        return false;
-    }
-    let running = tracker[place::RUNNING] == 1;
-    let lanes = quiet::checked_lanes(running, tracker[place::LANES] as u32);
-    quiet::quiet_id(lanes, word[Word::ID_BYTE])
+    in_place::packet(tracker, position, orbit, trigger, bc, page, stop, format) as u64
 }
 
-// A word: the tracker is read, the word call made, and the tracker that it gives written.
-fn word_on(tracker: &mut [u64], word: &[u8], records: &mut [u64]) -> WordNumbers
-    ensures { λ r. ⌜ WordOn (now (tracker .entry)) (now (word .entry)) (now (records .entry)) r (now (tracker .exit)) (now (records .exit)) ⌝ }
-{
-    let Decoded::Is(t) = tracker_array::decode(tracker) else {
-        return answer::refused(NO_TRACKER);
-    };
-    let answer = t.word(word, records);
-    let told = answer.told;
-    tracker_array::encode(answer.tracker, tracker);
-    answer::told(told)
-}
-
-// One word. A data word that gives no record is decided on the numbers themselves, of which it changes two.
+// One word.
 #[no_mangle]
 pub extern "C" fn khz_word(tracker: &mut [u64], word: &[u8], records: &mut [u64]) -> WordNumbers
     ensures { λ r. ⌜ WordOn (now (tracker .entry)) (now (word .entry)) (now (records .entry)) r (now (tracker .exit)) (now (records .exit)) ⌝ }
 {
-    if is_quiet(tracker, word) {
-        tracker[place::COUNT] = tracker[place::COUNT] + 1;
-        tracker[place::SEEN] = 1;
-        return answer::data_word();
+    if !tracker_array::is_tracker(tracker) {
+        return answer::refused(NO_TRACKER);
     }
-    word_on(tracker, word, records)
+    answer::told(in_place::word(tracker, word, records))
 }
 
 // The words of a payload, up to a refusal.
@@ -144,15 +125,14 @@ pub extern "C" fn khz_payload(
 ) -> PayloadNumbers
     ensures { λ r. ⌜ PayloadOn (now (tracker .entry)) (now (payload .entry)) (now (records .entry)) r (now (tracker .exit)) (now (records .exit)) ⌝ }
 {
-    let Decoded::Is(t) = tracker_array::decode(tracker) else {
+    if !tracker_array::is_tracker(tracker) {
         return PayloadNumbers {
             refusal: NO_TRACKER,
             words: 0,
             records: 0,
         };
-    };
-    let answer = payload::payload(t, payload, records);
-    tracker_array::encode(answer.tracker, tracker);
+    }
+    let answer = in_place::payload(tracker, payload, records);
     PayloadNumbers {
         refusal: answer.refusal as u64,
         words: answer.words,
@@ -165,10 +145,10 @@ pub extern "C" fn khz_payload(
 pub extern "C" fn khz_reset(tracker: &mut [u64]) -> u64
     ensures { λ r. ⌜ ResetOn (now (tracker .entry)) r (now (tracker .exit)) ⌝ }
 {
-    let Decoded::Is(t) = tracker_array::decode(tracker) else {
+    if !tracker_array::is_tracker(tracker) {
         return NO_TRACKER;
-    };
-    tracker_array::encode(t.reset(), tracker);
+    }
+    in_place::reset(tracker);
     0
 }
 

@@ -23,11 +23,18 @@ use Rattle.cdp_running.specs.Word as W
 use Rattle.cdp_running.specs.Word.{Outcome, taken, refused, wordCall, recordsIn, WordPost}
 use Rattle.cdp_running.proofs.Outcome.{next-is}
 use Rattle.payload.specs.Payload.{Run, stop, preceded, onward, wordsFrom, payloadCall, answerOf, PayloadPost}
-use Rattle.payload.specs.Silent.{Ready, Glide}
 use Rattle.payload.proofs.Run.{preceded-twice, preceded-none}
 
+-- A place between two words of a payload, and a tracker that has a packet.
+pub record Ready (t : Tracker) (bytes : List ℕ) (at : ℕ) : Type 0 where
+  pub good : Good t
+  pub accepted : t .accepted ≡ true
+  pub whole : length bytes % 10 ≡ 0
+  pub within : at ≤ length bytes
+  pub between : at % 10 ≡ 0
+
 -- What the words from a place on come to.
-abbrev runFrom : List ℕ → ℕ → Tracker → ℕ → Run
+abbrev pub runFrom : List ℕ → ℕ → Tracker → ℕ → Run
 runFrom b places t at = wordsFrom ((length b - at) / 10) t (drop at b) places
 
 pub record Going (t : Tracker) (b out₀ out : List ℕ) (cur : Tracker) (at used : ℕ) : Type 0 where
@@ -95,10 +102,10 @@ module _ {t : Tracker} {b out₀ : List ℕ} where
               ∙ (λ i. preceded (words i) (g .rs ++ new) (runFrom b (left i) u to));
         }
 
-    -- A stretch of words that give no record.
-    pub glided : {u : Tracker} {to : ℕ} → Glide cur b at u to → Going t b out₀ out u to used
-    glided {u} {to} s =
-        further ((to - at) / 10) [] (s .ready) (omega (arith, g .ready .between)) (omega arith) (rw append-nil (g .buffer-is)) refl (simp sub-zero (s .runs places))
+    -- Words that gave no record.
+    pub further-silent : {u : Tracker} (k : ℕ) → Ready u b (at + 10 * k) → ((places : ℕ) → runFrom b places cur at ≡ preceded k [] (runFrom b places u (at + 10 * k)))
+        → Going t b out₀ out u (at + 10 * k) used
+    further-silent k ready runs = further k [] ready (omega (arith, g .ready .between)) (omega arith) (rw append-nil (g .buffer-is)) refl (simp sub-zero (runs places))
 
     pub used-low : used ≤ length out
     used-low = let fits = over-fits (flat (g .rs)) out₀ (sym (ap length (g .buffer-is)) ∙ g .same) in omega arith

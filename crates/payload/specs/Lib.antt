@@ -1,4 +1,2 @@
--- A payload call (Payload), and what its fast path relies on: data words that give no record (Quiet), and stretches of words that give none (Silent).
+-- A payload call.
 pub mod Payload
-pub mod Quiet
-pub mod Silent

@@ -43,7 +43,7 @@ wordsFrom (suc n) t bytes places =
     onward t (wordCall t (take wordBytes bytes) places)
     (λ next records. preceded 1 records (wordsFrom n next (drop wordBytes bytes) (places - length records)))
 
--- "1: payload not a multiple of 10"; "2: no packet accepted yet"; "An empty payload is accepted if a packet is."
+-- 1, "payload not a multiple of 10"; 2, "no packet accepted yet"; "An empty payload is accepted if a packet is."
 unfoldable pub payloadCall : Tracker → List ℕ → ℕ → Run
 payloadCall t bytes places =
     cond (eqb (length bytes % wordBytes) 0)

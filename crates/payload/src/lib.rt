@@ -1,5 +1,5 @@
 // A payload: its words in order, up to a refusal. Document 01, "Calls and settings": "A payload call does words in order".
-// Words that give no record go through a loop that makes none; any other word is handed to the word call.
+// Each word is handed to the word call. The exported call goes over the numbers of a tracker in place instead, in the crate in_place.
 ghost use mathlib.Core.Path.{_≡_};
 ghost use Prim.Native.Nat.{_≤_};
 ghost use lib.ListN.{length, take};
@@ -7,11 +7,6 @@ ghost use Rattle.words.specs.Word.{wordBytes};
 ghost use Rattle.cdp_running.specs.Tracker.{Good};
 ghost use Rattle.cdp_running.specs.Word.{WordPost};
 ghost use Rattle.payload.specs.Payload.{PayloadPost, answerOf, stop};
-
-mod moved;
-pub mod quiet;
-mod silent;
-
 use cdp_running::REFUSED_NO_PACKET;
 use cdp_running::Told;
 use cdp_running::Tracker;
@@ -60,18 +55,7 @@ pub fn payload(t: Tracker, bytes: &[u8], out: &mut [u64]) -> PayloadAnswer
     let mut at: usize = 0;
     let mut used: usize = 0;
     while at < bytes.len() {
-        let went = silent::silent_words(cur, bytes, at);
-        let here = went.tracker;
-        let to = went.at;
-        if bytes.len() <= to {
-            return PayloadAnswer {
-                tracker: here,
-                words: (to / Word::SIZE) as u64,
-                records: (used / records::WIDTH) as u64,
-                refusal: 0,
-            };
-        }
-        let answer = first_word(here, &bytes[to..], &mut out[used..]);
+        let answer = first_word(cur, &bytes[at..], &mut out[used..]);
         let told = answer.told;
         let after = answer.tracker;
         match told {
@@ -83,13 +67,13 @@ pub fn payload(t: Tracker, bytes: &[u8], out: &mut [u64]) -> PayloadAnswer
                 lanes: _,
             } => {
                 cur = after;
-                at = to + Word::SIZE;
+                at = at + Word::SIZE;
                 used = used + records::WIDTH * (n as usize);
             }
             Told::Refused(refusal) => {
                 return PayloadAnswer {
                     tracker: after,
-                    words: (to / Word::SIZE) as u64,
+                    words: (at / Word::SIZE) as u64,
                     records: (used / records::WIDTH) as u64,
                     refusal: refusal,
                 };

@@ -11,12 +11,12 @@ use Rattle.words.specs.DataIds.{isDataId}
 use Rattle.payload_fsm.specs.declared.State.{State}
 use Rattle.payload_fsm.specs.Step.{nextState}
 
--- "data words with bit 13 clear"
+-- A data word with bit 13 clear.
 pub record DataClear (w : Word) : Type 0 where
   pub data-id : isDataId (idOf w) ≡ true
   pub clear : noData w ≡ 0
 
--- "a TDT with packet done"
+-- A TDT with packet done.
 pub record TdtDone (w : Word) : Type 0 where
   pub tdt-id : idOf w ≡ tdtId
   pub done : packetDone w ≡ true

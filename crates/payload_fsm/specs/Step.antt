@@ -34,15 +34,15 @@ guess kind next = record { word = kind; guessed = true; fsm = record { state = n
 abbrev pub afterTdh : Word → State
 afterTdh w = cond (eqb (noData w) 0) S.Data S.Three
 
--- "DATA_, c_DATA_": "0xF0: TDT; packet done THREE, else c_IHW_", "0xF8: CDW, same state", "data id: data word, same state", "other: E991, data word,
--- same state".
+-- "DATA_, c_DATA_": 0xF0 "TDT; packet done THREE, else c_IHW_", 0xF8 "CDW, same state", a data id "data word, same state", other "E991, data word, same
+-- state".
 abbrev pub inData : State → Word → Advanced
 inData state w =
     cond (eqb (idOf w) tdtId) (taken K.Tdt (cond (packetDone w) S.Three S.CIhw))
     (cond (eqb (idOf w) cdwId) (taken K.Cdw state)
     (cond (isDataId (idOf w)) (taken K.DataWord state) (guess K.DataWord state)))
 
--- "THREE": "0xE8: TDH after packet done; bit 13 as above", "0xE4: DDW0, IHW_", "0xE0: IHW, TDH_", "other: E992, DDW0, IHW_".
+-- "THREE": 0xE8 "TDH after packet done; bit 13 as above", 0xE4 "DDW0, IHW_", 0xE0 "IHW, TDH_", other "E992, DDW0, IHW_".
 abbrev pub inThree : Word → Advanced
 inThree w =
     cond (eqb (idOf w) tdhId) (taken K.TdhAfterPacketDone (afterTdh w))

@@ -230,9 +230,10 @@ impl ItsPayloadFsmContinuous {
         ensures { λ r. ⌜ r ≡ advanceOf (self .state) word ⌝ }
     {
         let state = self.state;
+        let next = after_tdh(word);
         match state {
             State::Ihw => taken(ItsPayloadWord::Ihw, State::Tdh),
-            State::Tdh => taken(ItsPayloadWord::Tdh, after_tdh(word)),
+            State::Tdh => taken(ItsPayloadWord::Tdh, next),
             State::Data => in_data(state, word),
             State::CData => in_data(state, word),
             State::Three => in_three(word),

@@ -92,7 +92,7 @@ tail-long a n d h = rw (mid-tail a d) (simp length-drop (omega arith))
 pub refused : (position : ℕ) (rows : List Row) (out : List ℕ) → length out / recordWidth < count rows → WritePost position rows out NoRoom out
 refused position rows out h =
     let e = lt-ltb (room out) (length (given position rows)) (omega (arith, counted position rows)) in
-    record { answer = simp e; buffer-is = simp e }
+    record { answer = simp e; number = simp e; value = simp e; buffer-is = simp e }
 
 -- After all rows.
 pub written : (position : ℕ) (rows : List Row) (out₀ out : List ℕ) (used i n : ℕ) → Going position rows out₀ out used i → length rows ≤ i → n ≡ count rows
@@ -102,5 +102,7 @@ written position rows out₀ out used i n g le e h =
     let fits = le-ltb (room out₀) (length (given position rows)) (omega arith) in
     record {
       answer = simp fits (ap Records (e ∙ sym c));
+      number = simp fits;
+      value = simp fits (e ∙ sym c);
       buffer-is = simp fits (g .buffer-is ∙ ap (λ (l : List Row). over (flat (given position l)) out₀) (take-all i rows le));
     }

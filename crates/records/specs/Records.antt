@@ -71,12 +71,23 @@ room buffer = length buffer / recordWidth
 abbrev pub over : List ℕ → List ℕ → List ℕ
 over written buffer = written ++ drop (length written) buffer
 
--- "4: this word's records exceed the buffer's room": nothing is written. Else the records stand at its front.
+-- 4, "this word's records exceed the buffer's room": nothing is written. Else the records stand at its front.
 abbrev pub exceed : List Record → ℕ → Bool
 exceed records places = ltb places (length records)
 
+-- "Where an answer is an enum, a definition gives this paper's number and values for each of its cases": the refusal, or 0 and how many were written.
+abbrev pub refusalOf : Written → ℕ
+refusalOf (Records n) = 0
+refusalOf NoRoom = 4
+
+abbrev pub writtenOf : Written → ℕ
+writtenOf (Records n) = n
+writtenOf NoRoom = 0
+
 pub record WritePost (position : ℕ) (rows : List Row) (buffer : List ℕ) (r : Written) (after : List ℕ) : Type 0 where
   pub answer : r ≡ cond (exceed (given position rows) (room buffer)) NoRoom (Records (length (given position rows)))
+  pub number : refusalOf r ≡ cond (exceed (given position rows) (room buffer)) 4 0
+  pub value : writtenOf r ≡ cond (exceed (given position rows) (room buffer)) 0 (length (given position rows))
   pub buffer-is : after ≡ cond (exceed (given position rows) (room buffer)) buffer (over (flat (given position rows)) buffer)
 
 -- Something that holds of each of a list.

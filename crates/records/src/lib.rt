@@ -99,8 +99,8 @@ pub fn write(out: &mut [u64], position: u64, rows: [Row; MOST]) -> Written
         return Written::NoRoom;
     }
     let mut used: usize = 0;
-    for i in 0..MOST {
-        let row = rows[i];
+    for k in 0..MOST {
+        let row = rows[k];
         if row.on {
             put(&mut out[used..], position, row);
             used = used + WIDTH;

@@ -52,12 +52,11 @@ pub fn check_trigger_interval(settings: Settings, earlier: InternalTdh, word: Wo
     let past = (earlier.bc > Tdh::MAX_BC) | (bc > Tdh::MAX_BC);
     let found = trigger_period(earlier.bc, bc);
     let asked = settings.running & (settings.periodic & ((internal == 1) & earlier.stored));
-    when(
-        asked & (past | (found != settings.period)),
-        pick(past, 1045, 45),
-        pick(past, earlier.bc as u64, found as u64),
-        pick(past, bc as u64, settings.period as u64),
-    )
+    let code = pick(past, 1045, 45);
+    let first = pick(past, earlier.bc as u64, found as u64);
+    let second = pick(past, bc as u64, settings.period as u64);
+    let differs = past | (found != settings.period);
+    when(asked & differs, code, first, second)
 }
 
 // Kind TDH: straight after an IHW.

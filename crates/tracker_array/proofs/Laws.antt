@@ -11,10 +11,9 @@ use lib.ListN.{length, replicate}
 use borrow.Author.Tests.{eqb-true, eqb-false, le-leb, eq-eqb, ne-eqb}
 use Rattle.cdp_running.specs.declared.Tracker.{Tracker}
 use Rattle.cdp_running.specs.Tracker.{Good}
-use Rattle.tracker_array.specs.declared.Decoded.the-variants.{Is, Not}
 use Rattle.tracker_array.specs.Array.{flag, stateNumber, encodeOf}
-use Rattle.tracker_array.specs.Read.{place, isOn, isFlag, trackerIn, inForm, Sized, isGood, isTracker, decodeOf}
-use Rattle.tracker_array.specs.Taking.{Fits}
+use Rattle.tracker_array.specs.Read.{place, isOn, isFlag, trackerIn, inForm, Sized, isGood, isTracker, Is, Not, decodeOf}
+use Rattle.tracker_array.specs.Good.{InForm, Fits, GoodArray}
 use Rattle.tracker_array.proofs.State.{state-back, state-low, number-back}
 use Rattle.tracker_array.proofs.Stores.{numbersFrom, spelled}
 use Rattle.words.proofs.Tests.{both, and-is, tests}
@@ -24,7 +23,7 @@ flag-low : (b : Bool) → isFlag (flag b) ≡ true
 flag-low true = refl
 flag-low false = refl
 
-flag-back : (b : Bool) → isOn (flag b) ≡ b
+pub flag-back : (b : Bool) → isOn (flag b) ≡ b
 flag-back true = refl
 flag-back false = refl
 
@@ -41,7 +40,7 @@ unfolding isTracker
 tracker-is a = (λ e. let (l, rest) = both (eqb (length a) 32) _ e in (eqb-true _ _ l, both (inForm a) _ rest), λ (l, rest). and-is _ _ .1 (eq-eqb _ _ l, and-is _ _ .1 rest))
 
 module _ (t : Tracker) where
-  reads-back : trackerIn (encodeOf t) ≡ t
+  pub reads-back : trackerIn (encodeOf t) ≡ t
   unfolding encodeOf
   reads-back = simp (flag-back, state-back)
 
@@ -53,7 +52,7 @@ module _ (t : Tracker) where
   unfolding encodeOf
   long-back = refl
 
-  tracker-back : Good t → Sized t → isTracker (encodeOf t) ≡ true
+  pub tracker-back : Good t → Sized t → isTracker (encodeOf t) ≡ true
   tracker-back g s = tracker-is (encodeOf t) .1 (long-back, (form-back, ap isGood reads-back ∙ good-tests t g s))
 
   -- What was written is read again.
@@ -66,12 +65,16 @@ pub encode-apart : (t u : Tracker) → encodeOf t ≡ encodeOf u → t ≡ u
 encode-apart t u e = sym (reads-back t) ∙ ap trackerIn e ∙ reads-back u
 
 -- A tracker's numbers are those of what they are read as: flags and the state are read back, and the mark and the unused places are known.
-written : (a : List ℕ) → isTracker a ≡ true → a ≡ encodeOf (trackerIn a)
+pub written : (a : List ℕ) → isTracker a ≡ true → a ≡ encodeOf (trackerIn a)
 unfolding numbersFrom encodeOf
 written a e =
     let (long, (form, good)) = tracker-is a .0 e in
     let (m, ((f1, (f2, (f3, (f5, (f15, (f16, (f18, (f22, (f24, f26))))))))), (low, (z28, (z29, (z30, z31)))))) = simp tests at form in
     sym (spelled 32 0 a long) ∙ simp (m, number-flag, number-back, z28, z29, z30, z31)
+
+-- What they are read as is a tracker that the start or a call can have given.
+pub tracker-good : (a : List ℕ) → isTracker a ≡ true → Good (trackerIn a) × Sized (trackerIn a)
+tracker-good a e = tests-good (trackerIn a) (tracker-is a .0 e .1 .1)
 
 -- They fit the widths that they are read with.
 pub tracker-fits : (a : List ℕ) → isTracker a ≡ true → Fits a
@@ -85,6 +88,22 @@ tracker-fits a e =
     at : (b : Bool) → eqb (place a 12) 0 ≡ b → (b ≡ false → place a 12 ≡ 2) → place a 12 < 2 ^ 8
     at true none two = omega (arith, eqb-true (place a 12) 0 none)
     at false some two = omega (arith, two refl)
+
+-- The invariant of an array is the test, in both directions; a tracker's own numbers meet it.
+pub good-array : (a : List ℕ) → isTracker a ≡ true → GoodArray a
+good-array a e = let (good, sized) = tracker-good a e in record { fits = tracker-fits a e; own = written a e; good = good; sized = sized }
+
+pub good-again : (t : Tracker) → Good t → Sized t → GoodArray (encodeOf t)
+good-again t g s = good-array (encodeOf t) (tracker-back t g s)
+
+pub array-good : (a : List ℕ) → GoodArray a → isTracker a ≡ true
+array-good a h = ap isTracker (h .own) ∙ tracker-back (trackerIn a) (h .good) (h .sized)
+
+-- Numbers that passed the test of form.
+pub in-form : (a : List ℕ) → length a ≡ 32 → inForm a ≡ true → InForm a
+in-form a long e =
+    let (m, ((f1, (f2, (f3, (f5, (f15, (f16, (f18, (f22, (f24, f26))))))))), (low, (z28, (z29, (z30, z31)))))) = simp tests at e in
+    record { long = long; periodic = f3; ihw = f16; tdh = f18; internal = f22; cdw = f24; live = f26 }
 
 module _ (a : List ℕ) (t : Tracker) (e : decodeOf a ≡ Is t) where
   decoded : (isTracker a ≡ true) × (trackerIn a ≡ t)
@@ -119,6 +138,10 @@ module _ (a : List ℕ) where
   pub tested : {f g : Bool} → length a ≡ 32 → f ≡ inForm a → g ≡ isGood (trackerIn a) → isTracker a ≡ (f && g)
   unfolding isTracker
   tested l p q = simp (eq-eqb _ _ l, p, q)
+
+  pub of-length : (length a ≡ 32 → ⊥) → isTracker a ≡ false
+  unfolding isTracker
+  of-length h = simp (ne-eqb _ _ h)
 
   pub is-tracker : {t : Tracker} → t ≡ trackerIn a → isTracker a ≡ true → Is t ≡ decodeOf a
   unfolding decodeOf

@@ -1,6 +1,6 @@
 pub mod State
 pub mod Stores
+pub mod Kept
 pub mod Invariant
 pub mod Laws
-pub mod Taking
 pub mod Unique

@@ -6,16 +6,11 @@ use mathlib.Core.List.{List}
 use Prim.Native.Nat.{ℕ}
 use Rattle.words.proofs.Unique.{unique}
 use Rattle.cdp_running.specs.declared.Tracker.{Tracker}
-use Rattle.tracker_array.specs.declared.Decoded.{Decoded}
 use Rattle.tracker_array.specs.Array.{writtenTo}
-use Rattle.tracker_array.specs.Read.{decodeOf}
-use Rattle.tracker_array.specs.Taking.{takesData}
+use Rattle.tracker_array.specs.Read.{isTracker}
 
-pub decode-unique : (a : List ℕ) {first second : Decoded} → first ≡ decodeOf a → second ≡ decodeOf a → first ≡ second
-decode-unique a = unique
+pub is-tracker-unique : (a : List ℕ) {first second : Bool} → first ≡ isTracker a → second ≡ isTracker a → first ≡ second
+is-tracker-unique a = unique
 
 pub encode-unique : (a : List ℕ) (t : Tracker) {first second : List ℕ} → first ≡ writtenTo a t → second ≡ writtenTo a t → first ≡ second
 encode-unique a t = unique
-
-pub takes-data-unique : (a : List ℕ) {first second : Bool} → first ≡ takesData a → second ≡ takesData a → first ≡ second
-takes-data-unique a = unique

@@ -19,9 +19,10 @@ use Rattle.cdp_running.specs.declared.Tracker.{Tracker}
 abbrev pub size : ℕ
 size = 32
 
--- The first number of every tracker, so that zeros are none: the letters KHZ and a version.
+-- The first number of every tracker, so that zeros are none: the letters KHZ and the version of the boundary, KHZ_API of include/khandzorul.h, so that an
+-- array of another version is none either.
 abbrev pub mark : ℕ
-mark = 0x4B485A01
+mark = 0x4B485A02
 
 abbrev pub flag : Bool → ℕ
 flag false = 0

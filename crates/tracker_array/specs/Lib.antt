@@ -1,4 +1,4 @@
--- A tracker as numbers: Array is what stands where, Read which numbers are a tracker and which one, Taking a tracker that awaits a data word.
+-- A tracker as numbers: Array is what stands where, Read which numbers are a tracker and which one, Good what is known of such numbers.
 pub mod Array
 pub mod Read
-pub mod Taking
+pub mod Good

@@ -16,8 +16,6 @@ use Rattle.cdp_running.specs.declared.StoredIhw.{StoredIhw}
 use Rattle.cdp_running.specs.declared.Frame.{Frame}
 use Rattle.cdp_running.specs.declared.Tracker.{Tracker}
 use Rattle.cdp_running.specs.Tracker.{inRange, maxWords, mostPosition, pastIhw, pastTdh}
-use Rattle.tracker_array.specs.declared.Decoded.{Decoded}
-use Rattle.tracker_array.specs.declared.Decoded.the-variants.{Is, Not}
 use Rattle.tracker_array.specs.Array.{size, mark}
 
 abbrev pub place : List ℕ → ℕ → ℕ
@@ -168,6 +166,11 @@ isGood t =
 
 unfoldable pub isTracker : List ℕ → Bool
 isTracker a = eqb (length a) size && (inForm a && isGood (trackerIn a))
+
+-- What numbers are: a tracker, or none.
+pub data Decoded : Type 0 where
+  Is : Tracker → Decoded
+  Not : Decoded
 
 unfoldable pub decodeOf : List ℕ → Decoded
 decodeOf a = cond (isTracker a) (Is (trackerIn a)) Not

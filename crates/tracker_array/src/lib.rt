@@ -1,11 +1,11 @@
-// A tracker as 32 numbers, for callers who own its memory: read from them, and written to them.
+// A tracker as 32 numbers, for callers who own its memory: which numbers are one, what its parts are, and writing one.
 ghost use mathlib.Core.Path.{_≡_};
 ghost use Rattle.tracker_array.specs.Array.{writtenTo};
-ghost use Rattle.tracker_array.specs.Read.{decodeOf};
-ghost use Rattle.tracker_array.specs.Taking.{takesData};
+ghost use Rattle.tracker_array.specs.Read.{isTracker};
 
 pub mod place;
-mod read;
+pub mod read;
+pub mod states;
 mod test;
 mod write;
 
@@ -14,40 +14,20 @@ use cdp_running::Tracker;
 // Numbers in a tracker.
 pub const SIZE: usize = 32;
 
-// The first number of every tracker.
-pub const MARK: u64 = 0x4B48_5A01;
+// The first number of every tracker; its last byte is the version of the boundary.
+pub const MARK: u64 = 0x4B48_5A02;
 
-// What numbers are: a tracker, or none.
-pub enum Decoded {
-    Is(Tracker),
-    Not,
-}
-
-// The tracker that numbers are. None: another length, or numbers that the start and the calls can't have written.
-pub fn decode(a: &[u64]) -> Decoded
-    ensures { λ r. ⌜ r ≡ decodeOf (now (a .entry)) ⌝ }
-{
-    if a.len() != SIZE {
-        return Decoded::Not;
-    }
-    if test::in_form(a) & test::is_good(a) {
-        Decoded::Is(read::tracker(a))
-    } else {
-        Decoded::Not
-    }
-}
-
-// Whether numbers are a tracker that awaits a data word.
-pub fn takes_data(a: &[u64]) -> bool
-    ensures { λ r. ⌜ r ≡ takesData (now (a .entry)) ⌝ }
+// Whether numbers are a tracker.
+pub fn is_tracker(a: &[u64]) -> bool
+    ensures { λ r. ⌜ r ≡ isTracker (now (a .entry)) ⌝ }
 {
     if a.len() != SIZE {
         return false;
     }
-    if !test::taking(a) {
+    if !test::in_form(a) {
         return false;
     }
-    test::in_form(a) & test::taking_good(a)
+    test::is_good(a)
 }
 
 // A tracker's numbers, whatever stood there. An array of another length stays as it was.

@@ -1,21 +1,18 @@
-// The tracker that 32 numbers are, once they are known to be one.
+// The parts of the tracker that 32 numbers are.
 ghost use mathlib.Core.Path.{_≡_};
-ghost use Rattle.tracker_array.specs.Read.{stateOf, settingsIn, packetIn, ihwIn, tdhIn, internalIn, cdwIn, frameIn, trackerIn};
-ghost use Rattle.tracker_array.specs.Taking.{Fits};
+ghost use Rattle.tracker_array.specs.Read.{settingsIn, packetIn, ihwIn, tdhIn, internalIn, cdwIn, frameIn};
+ghost use Rattle.tracker_array.specs.Good.{GoodArray};
 use crate::place;
 use cdp_running::Frame;
 use cdp_running::StoredIhw;
-use cdp_running::Tracker;
-use payload_fsm::ItsPayloadFsmContinuous;
-use payload_fsm::State;
 use validators::InternalTdh;
 use validators::Packet;
 use validators::Settings;
 use validators::StoredCdw;
 use validators::StoredTdh;
 
-fn settings(a: &[u64]) -> Settings
-    requires { ⌜ Fits (now a) ⌝ }
+pub fn settings(a: &[u64]) -> Settings
+    requires { ⌜ GoodArray (now a) ⌝ }
     ensures { λ r. ⌜ r ≡ settingsIn (now (a .entry)) ⌝ }
 {
     Settings {
@@ -26,8 +23,8 @@ fn settings(a: &[u64]) -> Settings
     }
 }
 
-fn packet(a: &[u64]) -> Packet
-    requires { ⌜ Fits (now a) ⌝ }
+pub fn packet(a: &[u64]) -> Packet
+    requires { ⌜ GoodArray (now a) ⌝ }
     ensures { λ r. ⌜ r ≡ packetIn (now (a .entry)) ⌝ }
 {
     Packet {
@@ -41,22 +38,8 @@ fn packet(a: &[u64]) -> Packet
     }
 }
 
-fn state(n: u64) -> State
-    ensures { λ r. ⌜ r ≡ stateOf n ⌝ }
-{
-    match n {
-        0 => State::Ihw,
-        1 => State::Tdh,
-        2 => State::Data,
-        3 => State::CData,
-        4 => State::Three,
-        5 => State::CIhw,
-        _ => State::CTdh,
-    }
-}
-
-fn ihw(a: &[u64]) -> StoredIhw
-    requires { ⌜ Fits (now a) ⌝ }
+pub fn ihw(a: &[u64]) -> StoredIhw
+    requires { ⌜ GoodArray (now a) ⌝ }
     ensures { λ r. ⌜ r ≡ ihwIn (now (a .entry)) ⌝ }
 {
     StoredIhw {
@@ -65,8 +48,8 @@ fn ihw(a: &[u64]) -> StoredIhw
     }
 }
 
-fn tdh(a: &[u64]) -> StoredTdh
-    requires { ⌜ Fits (now a) ⌝ }
+pub fn tdh(a: &[u64]) -> StoredTdh
+    requires { ⌜ GoodArray (now a) ⌝ }
     ensures { λ r. ⌜ r ≡ tdhIn (now (a .entry)) ⌝ }
 {
     StoredTdh {
@@ -77,8 +60,8 @@ fn tdh(a: &[u64]) -> StoredTdh
     }
 }
 
-fn internal(a: &[u64]) -> InternalTdh
-    requires { ⌜ Fits (now a) ⌝ }
+pub fn internal(a: &[u64]) -> InternalTdh
+    requires { ⌜ GoodArray (now a) ⌝ }
     ensures { λ r. ⌜ r ≡ internalIn (now (a .entry)) ⌝ }
 {
     InternalTdh {
@@ -87,8 +70,8 @@ fn internal(a: &[u64]) -> InternalTdh
     }
 }
 
-fn cdw(a: &[u64]) -> StoredCdw
-    requires { ⌜ Fits (now a) ⌝ }
+pub fn cdw(a: &[u64]) -> StoredCdw
+    requires { ⌜ GoodArray (now a) ⌝ }
     ensures { λ r. ⌜ r ≡ cdwIn (now (a .entry)) ⌝ }
 {
     StoredCdw {
@@ -97,33 +80,12 @@ fn cdw(a: &[u64]) -> StoredCdw
     }
 }
 
-fn frame(a: &[u64]) -> Frame
-    requires { ⌜ Fits (now a) ⌝ }
+pub fn frame(a: &[u64]) -> Frame
+    requires { ⌜ GoodArray (now a) ⌝ }
     ensures { λ r. ⌜ r ≡ frameIn (now (a .entry)) ⌝ }
 {
     Frame {
         live: a[place::LIVE] == 1,
         start: a[place::START],
-    }
-}
-
-pub(crate) fn tracker(a: &[u64]) -> Tracker
-    requires { ⌜ Fits (now a) ⌝ }
-    ensures { λ r. ⌜ r ≡ trackerIn (now (a .entry)) ⌝ }
-{
-    Tracker {
-        settings: settings(a),
-        accepted: a[place::ACCEPTED] == 1,
-        packet: packet(a),
-        fsm: ItsPayloadFsmContinuous {
-            state: state(a[place::STATE]),
-        },
-        count: a[place::COUNT] as u16,
-        seen: a[place::SEEN] == 1,
-        ihw: ihw(a),
-        tdh: tdh(a),
-        internal: internal(a),
-        cdw: cdw(a),
-        frame: frame(a),
     }
 }

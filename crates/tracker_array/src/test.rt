@@ -1,13 +1,13 @@
-// Whether 32 numbers are a tracker, part by part, on the numbers themselves.
+// Whether 32 numbers are a tracker, part by part, on the numbers themselves. Tests end at the first part that fails, which is faster than all of them.
 ghost use mathlib.Core.Path.{_≡_};
-ghost use mathlib.Core.Bool.{_&&_};
-ghost use Prim.Native.Nat.{_^_};
-ghost use lib.Dec.{ltb};
+ghost use mathlib.Core.Bool.{_&&_, _||_};
+ghost use Prim.Native.Nat.{_+_, _≤_};
+ghost use lib.Dec.{leb, ltb, eqb};
 ghost use lib.ListN.{length};
-ghost use Rattle.cdp_running.specs.Tracker.{inRange, pastIhw, pastTdh};
+ghost use Rattle.cdp_running.specs.Tracker.{inRange, maxWords, pastIhw, pastTdh};
 ghost use Rattle.tracker_array.specs.Array.{size};
-ghost use Rattle.tracker_array.specs.Read.{stateOf, settingsIn, packetIn, ihwIn, tdhIn, internalIn, cdwIn, frameIn, trackerIn, flagsFit, unused, inForm, settingsGood, ihwGood, tdhGood, internalGood, cdwGood, frameGood, present, packetBlank, inStart, blank, isGood, place, isOn};
-ghost use Rattle.tracker_array.specs.Taking.{taking, takingGood};
+ghost use Rattle.tracker_array.specs.Read.{place, isOn, stateOf, settingsIn, packetIn, ihwIn, tdhIn, internalIn, cdwIn, frameIn, trackerIn, flagsFit, unused, inForm, settingsGood, ihwGood, tdhGood, internalGood, cdwGood, frameGood, present, packetBlank, inStart, blank, isGood};
+ghost use Rattle.tracker_array.specs.Good.{InForm};
 use crate::MARK;
 use crate::place;
 
@@ -44,71 +44,106 @@ pub(crate) fn in_form(a: &[u64]) -> bool
     (a[0] == MARK) & (flags_fit(a) & ((a[place::STATE] <= 6) & unused(a)))
 }
 
+// Whether a number fits where its flag is on, and is 0 where it is off, by one comparison.
+fn fits(flag: u64, most: u64, n: u64) -> bool
+    requires { ⌜ flag ≤ 1 ⌝ }
+    ensures { λ r. ⌜ r ≡ (ltb n (most + 1) && (isOn flag || eqb n 0)) ⌝ }
+{
+    n <= most * flag
+}
+
 fn settings(a: &[u64]) -> bool
-    requires { ⌜ length (now a) ≡ size ⌝ }
+    requires { ⌜ InForm (now a) ⌝ }
     ensures { λ r. ⌜ r ≡ settingsGood (settingsIn (now (a .entry))) ⌝ }
 {
-    let period = a[place::PERIOD];
-    (period < 0x1_0000) & ((a[place::PERIODIC] == 1) | (period == 0))
+    fits(a[place::PERIODIC], 0xFFFF, a[place::PERIOD])
 }
 
 fn packet(a: &[u64]) -> bool
-    requires { ⌜ length (now a) ≡ size ⌝ }
+    requires { ⌜ InForm (now a) ⌝ }
     ensures { λ r. ⌜ r ≡ inRange (packetIn (now (a .entry))) ⌝ }
 {
-    let format = a[place::FORMAT];
-    (a[place::POSITION] <= cdp_running::MAX_POSITION)
-        & ((a[place::ORBIT] < 0x1_0000_0000)
-            & ((a[place::TRIGGER] < 0x1_0000_0000)
-                & ((a[place::BC] <= (cdp_running::MAX_PACKET_BC as u64))
-                    & ((a[place::PAGE] < 0x1_0000)
-                        & ((a[place::STOP] < 0x100) & ((format == 0) | (format == 2)))))))
+    cdp_running::are_in_range(
+        a[place::POSITION],
+        a[place::ORBIT],
+        a[place::TRIGGER],
+        a[place::BC],
+        a[place::PAGE],
+        a[place::STOP],
+        a[place::FORMAT],
+    )
 }
 
 fn ihw(a: &[u64]) -> bool
-    requires { ⌜ length (now a) ≡ size ⌝ }
+    requires { ⌜ InForm (now a) ⌝ }
     ensures { λ r. ⌜ r ≡ ihwGood (ihwIn (now (a .entry))) ⌝ }
 {
-    let lanes = a[place::LANES];
-    (lanes < 0x1000_0000) & ((a[place::IHW] == 1) | (lanes == 0))
+    fits(a[place::IHW], 0xFFF_FFFF, a[place::LANES])
 }
 
 fn tdh(a: &[u64]) -> bool
-    requires { ⌜ length (now a) ≡ size ⌝ }
+    requires { ⌜ InForm (now a) ⌝ }
     ensures { λ r. ⌜ r ≡ tdhGood (tdhIn (now (a .entry))) ⌝ }
 {
-    let trigger = a[place::TDH_TRIGGER];
-    let bc = a[place::TDH_BC];
-    let orbit = a[place::TDH_ORBIT];
-    (trigger < 0x1000)
-        & ((bc < 0x1000)
-            & ((orbit < 0x1_0000_0000)
-                & ((a[place::TDH] == 1) | ((trigger == 0) & ((bc == 0) & (orbit == 0))))))
+    let stored = a[place::TDH];
+    fits(stored, 0xFFF, a[place::TDH_TRIGGER])
+        & (fits(stored, 0xFFF, a[place::TDH_BC]) & fits(stored, 0xFFFF_FFFF, a[place::TDH_ORBIT]))
 }
 
 fn internal(a: &[u64]) -> bool
-    requires { ⌜ length (now a) ≡ size ⌝ }
+    requires { ⌜ InForm (now a) ⌝ }
     ensures { λ r. ⌜ r ≡ internalGood (internalIn (now (a .entry))) ⌝ }
 {
-    let bc = a[place::INTERNAL_BC];
-    (bc < 0x1000) & ((a[place::INTERNAL] == 1) | (bc == 0))
+    fits(a[place::INTERNAL], 0xFFF, a[place::INTERNAL_BC])
 }
 
 fn cdw(a: &[u64]) -> bool
-    requires { ⌜ length (now a) ≡ size ⌝ }
+    requires { ⌜ InForm (now a) ⌝ }
     ensures { λ r. ⌜ r ≡ cdwGood (cdwIn (now (a .entry))) ⌝ }
 {
-    let user = a[place::CDW_USER];
-    (user < 0x1_0000_0000_0000) & ((a[place::CDW] == 1) | (user == 0))
+    fits(a[place::CDW], 0xFFFF_FFFF_FFFF, a[place::CDW_USER])
 }
 
 fn frame(a: &[u64]) -> bool
-    requires { ⌜ length (now a) ≡ size ⌝ }
+    requires { ⌜ InForm (now a) ⌝ }
     ensures { λ r. ⌜ r ≡ frameGood (settingsIn (now (a .entry)) .frames) (frameIn (now (a .entry))) ⌝ }
 {
-    let start = a[place::START];
-    let live = a[place::LIVE] == 1;
-    (start <= MOST_POSITION) & ((live | (start == 0)) & ((a[place::FRAMES] == 1) | !live))
+    let live = a[place::LIVE];
+    fits(live, MOST_POSITION, a[place::START]) & ((a[place::FRAMES] == 1) | !(live == 1))
+}
+
+// What came in: settings, packet and count.
+fn came_good(a: &[u64]) -> bool
+    requires { ⌜ InForm (now a) ⌝ }
+    ensures { λ r. ⌜ r ≡ (settingsGood (settingsIn (now (a .entry))) && (inRange (packetIn (now (a .entry))) && leb (place (now (a .entry)) 14) maxWords)) ⌝ }
+{
+    if !settings(a) {
+        return false;
+    }
+    if !packet(a) {
+        return false;
+    }
+    a[place::COUNT] <= (cdp_running::MAX_WORDS as u64)
+}
+
+// What is stored.
+fn stored_good(a: &[u64]) -> bool
+    requires { ⌜ InForm (now a) ⌝ }
+    ensures { λ r. ⌜ r ≡ (ihwGood (ihwIn (now (a .entry))) && (tdhGood (tdhIn (now (a .entry))) && (internalGood (internalIn (now (a .entry))) && (cdwGood (cdwIn (now (a .entry))) && frameGood (settingsIn (now (a .entry)) .frames) (frameIn (now (a .entry))))))) ⌝ }
+{
+    if !ihw(a) {
+        return false;
+    }
+    if !tdh(a) {
+        return false;
+    }
+    if !internal(a) {
+        return false;
+    }
+    if !cdw(a) {
+        return false;
+    }
+    frame(a)
 }
 
 // The states outside the start state, and those after a TDH.
@@ -132,7 +167,7 @@ fn in_start(state: u64) -> bool
 
 // An IHW is stored outside the start state, and a TDH wherever a previous one is read.
 fn present(a: &[u64]) -> bool
-    requires { ⌜ length (now a) ≡ size ⌝ }
+    requires { ⌜ InForm (now a) ⌝ }
     ensures { λ r. ⌜ r ≡ present (trackerIn (now (a .entry)) .fsm .state) (ihwIn (now (a .entry))) (tdhIn (now (a .entry))) ⌝ }
 {
     let state = a[place::STATE];
@@ -140,7 +175,7 @@ fn present(a: &[u64]) -> bool
 }
 
 fn packet_blank(a: &[u64]) -> bool
-    requires { ⌜ length (now a) ≡ size ⌝ }
+    requires { ⌜ InForm (now a) ⌝ }
     ensures { λ r. ⌜ r ≡ packetBlank (packetIn (now (a .entry))) ⌝ }
 {
     (a[place::POSITION] == 0)
@@ -152,7 +187,7 @@ fn packet_blank(a: &[u64]) -> bool
 
 // As the start gave it, but for the settings and the packet.
 fn blank(a: &[u64]) -> bool
-    requires { ⌜ length (now a) ≡ size ⌝ }
+    requires { ⌜ InForm (now a) ⌝ }
     ensures { λ r. ⌜ r ≡ blank (trackerIn (now (a .entry))) ⌝ }
 {
     let start = in_start(a[place::STATE]);
@@ -165,55 +200,30 @@ fn blank(a: &[u64]) -> bool
                             & (!(a[place::CDW] == 1) & !(a[place::LIVE] == 1)))))))
 }
 
+// With a packet, or as the start gave it.
+fn begun(a: &[u64]) -> bool
+    requires { ⌜ InForm (now a) ⌝ }
+    ensures { λ r. ⌜ r ≡ (isOn (place (now (a .entry)) 5) || (packetBlank (packetIn (now (a .entry))) && blank (trackerIn (now (a .entry))))) ⌝ }
+{
+    if a[place::ACCEPTED] == 1 {
+        return true;
+    }
+    packet_blank(a) & blank(a)
+}
+
 // The invariant.
 pub(crate) fn is_good(a: &[u64]) -> bool
-    requires { ⌜ length (now a) ≡ size ⌝ }
+    requires { ⌜ InForm (now a) ⌝ }
     ensures { λ r. ⌜ r ≡ isGood (trackerIn (now (a .entry))) ⌝ }
 {
-    settings(a)
-        & (packet(a)
-            & ((a[place::COUNT] <= (cdp_running::MAX_WORDS as u64))
-                & (ihw(a)
-                    & (tdh(a)
-                        & (internal(a)
-                            & (cdw(a)
-                                & (frame(a)
-                                    & (present(a)
-                                        & ((a[place::ACCEPTED] == 1)
-                                            | (packet_blank(a) & blank(a)))))))))))
-}
-
-// With a packet that takes one more word, and in DATA_ or c_DATA_.
-pub(crate) fn taking(a: &[u64]) -> bool
-    requires { ⌜ length (now a) ≡ size ⌝ }
-    ensures { λ r. ⌜ r ≡ taking (now (a .entry)) ⌝ }
-{
-    let state = a[place::STATE];
-    (a[place::ACCEPTED] == 1)
-        & (((state == 2) | (state == 3)) & (a[place::COUNT] < (cdp_running::MAX_WORDS as u64)))
-}
-
-fn ihw_there(a: &[u64]) -> bool
-    requires { ⌜ length (now a) ≡ size ⌝ }
-    ensures { λ r. ⌜ r ≡ (isOn (place (now (a .entry)) 16) && ltb (place (now (a .entry)) 17) (2 ^ 28)) ⌝ }
-{
-    (a[place::IHW] == 1) & (a[place::LANES] < 0x1000_0000)
-}
-
-fn tdh_there(a: &[u64]) -> bool
-    requires { ⌜ length (now a) ≡ size ⌝ }
-    ensures { λ r. ⌜ r ≡ (isOn (place (now (a .entry)) 18) && (ltb (place (now (a .entry)) 19) (2 ^ 12) && (ltb (place (now (a .entry)) 20) (2 ^ 12) && ltb (place (now (a .entry)) 21) (2 ^ 32)))) ⌝ }
-{
-    (a[place::TDH] == 1)
-        & ((a[place::TDH_TRIGGER] < 0x1000)
-            & ((a[place::TDH_BC] < 0x1000) & (a[place::TDH_ORBIT] < 0x1_0000_0000)))
-}
-
-// The invariant of a tracker that awaits a data word.
-pub(crate) fn taking_good(a: &[u64]) -> bool
-    requires { ⌜ length (now a) ≡ size ⌝ }
-    ensures { λ r. ⌜ r ≡ takingGood (now (a .entry)) ⌝ }
-{
-    settings(a)
-        & (packet(a) & (ihw_there(a) & (tdh_there(a) & (internal(a) & (cdw(a) & frame(a))))))
+    if !came_good(a) {
+        return false;
+    }
+    if !stored_good(a) {
+        return false;
+    }
+    if !present(a) {
+        return false;
+    }
+    begun(a)
 }

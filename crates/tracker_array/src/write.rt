@@ -7,6 +7,7 @@ ghost use lib.Seq.{sets};
 ghost use Rattle.tracker_array.specs.Array.{size, mark, flag, stateNumber, settingsNumbers, packetNumbers, tdhNumbers, firstNumbers, storedNumbers};
 use crate::MARK;
 use crate::place;
+use crate::states;
 use cdp_running::Frame;
 use cdp_running::StoredIhw;
 use payload_fsm::State;
@@ -20,20 +21,6 @@ fn flag(b: bool) -> u64
     ensures { λ r. ⌜ r ≡ flag b ⌝ }
 {
     if b { 1 } else { 0 }
-}
-
-fn state_number(state: State) -> u64
-    ensures { λ r. ⌜ r ≡ stateNumber state ⌝ }
-{
-    match state {
-        State::Ihw => 0,
-        State::Tdh => 1,
-        State::Data => 2,
-        State::CData => 3,
-        State::Three => 4,
-        State::CIhw => 5,
-        State::CTdh => 6,
-    }
 }
 
 fn settings(s: Settings, a: &mut [u64])
@@ -97,7 +84,7 @@ fn reached(state: State, count: u16, seen: bool, a: &mut [u64])
     requires { ⌜ length (now a) ≡ size ⌝ }
     ensures { λ _. ⌜ now (a .exit) ≡ sets (now (a .entry)) 13 (stateNumber state ∷ count ∷ flag seen ∷ []) ⌝ }
 {
-    a[place::STATE] = state_number(state);
+    a[place::STATE] = states::state_number(state);
     a[place::COUNT] = count as u64;
     a[place::SEEN] = flag(seen);
 }

@@ -1,6 +1,6 @@
 -- 01, "Records": "Data word or CDW kind: with no data seen yet in this packet and id 0xF8: R, 81 if a CDW was stored before, user fields differ and index
 -- is not 0 (index); then it is stored. Else 70 if not a data id (id); then R, top bits 001: 1072 lane not active (lane, active); top bits 010: 1071
--- likewise, then 1073 input above 6 (input). Data is then seen." Before these, where the id was unknown, "991, first the id".
+-- likewise, then 1073 input above 6 (input). Data is then seen." Before these, where the id was unknown, 991, "first the id".
 -- Assumes nothing.
 use Prim.Native.Nat.{ℕ, _/_}
 use mathlib.Core.Bool.{Bool, not, _&&_}
@@ -11,6 +11,8 @@ use Rattle.words.specs.Word.{idOf, slice}
 use Rattle.words.specs.Cdw.{cdwId, userFields, wordIndex}
 use Rattle.words.specs.DataIds.{isDataId, innerLane, outerLane, inputNumber}
 use Rattle.words.specs.Lanes.{isLaneActive}
+use Rattle.payload_fsm.specs.declared.ItsPayloadWord.the-variants as K
+use Rattle.payload_fsm.specs.Step.{guessCode}
 use Rattle.records.specs.declared.Row.{Row}
 use Rattle.records.specs.Records.{when}
 use Rattle.validators.specs.declared.Settings.{Settings}
@@ -36,7 +38,7 @@ dataRows s seen lanes stored guessed w =
     let id = idOf w in
     let first = firstCdw seen w in
     let laned = s .running && not first in
-    when guessed 991 id 0
+    when guessed (guessCode K.DataWord) id 0
     ∷ when (s .running && (first && (stored .stored && (differ (stored .user) (userFields w) && differ (wordIndex w) 0)))) 81 (wordIndex w) 0
     ∷ when (not first && not (isDataId id)) 70 id 0
     ∷ when (laned && (inner w && not (isLaneActive (innerLane id) lanes))) 1072 (innerLane id) lanes

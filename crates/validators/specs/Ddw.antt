@@ -8,6 +8,8 @@ use lib.Dec.{eqb}
 use Rattle.words.specs.declared.Word.{Word}
 use Rattle.words.specs.Word.{idOf}
 use Rattle.words.specs.Ddw.{ddw0Id, index, isReserved0}
+use Rattle.payload_fsm.specs.declared.ItsPayloadWord.the-variants as K
+use Rattle.payload_fsm.specs.Step.{guessCode}
 use Rattle.records.specs.declared.Row.{Row}
 use Rattle.records.specs.Records.{when}
 use Rattle.validators.specs.declared.Settings.{Settings}
@@ -19,6 +21,6 @@ detail w = cond (eqb (idOf w) ddw0Id) (cond (isReserved0 w) 0 2 + cond (differ (
 
 abbrev pub ddw0Rows : Settings → Packet → Bool → Word → List Row
 ddw0Rows s p guessed w =
-    when guessed 992 (idOf w) 0 ∷ detailed 60 (detail w) ∷ when (s .running && differ (p .stop) 1) 1110 (p .stop) 0
+    when guessed (guessCode K.Ddw0) (idOf w) 0 ∷ detailed 60 (detail w) ∷ when (s .running && differ (p .stop) 1) 1110 (p .stop) 0
     ∷ when (s .running && eqb (p .page) 0) 1111 (p .page) 0
     ∷ []

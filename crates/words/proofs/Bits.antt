@@ -17,28 +17,40 @@ above h l n le =
     let e : h + 1 - l + l ≡ h + 1 = omega arith in
     sym (field n (h + 1 - l) l) ∙ ap (λ (k : ℕ). n % 2 ^ k / 2 ^ l) e
 
+-- Two numbers joined at a bit: the bits below it are the lower number's, those from it on the upper's.
+module _ (seam hi lo : ℕ) (fits : lo < 2 ^ seam) where
+  abbrev joined : ℕ
+  joined = hi * 2 ^ seam + lo
+
+  pub low-part : (h l : ℕ) → l ≤ h → h < seam → slice h l joined ≡ slice h l lo
+  low-part h l le lt =
+      above h l joined le ∙ ap (λ (n : ℕ). n / 2 ^ l) same ∙ sym (above h l lo le)
+    where
+      apart : seam - 1 - h + (h + 1) ≡ seam
+      apart = omega arith
+
+      cut : joined % 2 ^ seam % 2 ^ (h + 1) ≡ joined % 2 ^ (h + 1)
+      cut = ap (λ (k : ℕ). joined % 2 ^ k % 2 ^ (h + 1)) (sym apart) ∙ mod-mod-pow joined (seam - 1 - h) (h + 1)
+
+      same : joined % 2 ^ (h + 1) ≡ lo % 2 ^ (h + 1)
+      same = sym cut ∙ ap (λ (n : ℕ). n % 2 ^ (h + 1)) (low hi seam fits)
+
+  pub high-part : (h l : ℕ) → seam ≤ l → slice h l joined ≡ (hi / 2 ^ (l - seam)) % 2 ^ (h + 1 - l)
+  high-part h l le =
+      ap (λ (n : ℕ). n % 2 ^ (h + 1 - l)) (ap (λ (k : ℕ). joined / 2 ^ k) (sym e) ∙ sym (shr-shr joined seam (l - seam)) ∙ ap (λ (n : ℕ). n / 2 ^ (l - seam)) (high hi seam fits))
+    where
+      e : seam + (l - seam) ≡ l
+      e = omega arith
+
 -- Bits in the lower half are bits of that half.
 pub low-half : (h l : ℕ) (w : Word) → w .lo < 2 ^ 64 → l ≤ h → h < 64 → bits h l w ≡ slice h l (w .lo)
 unfolding bits
-low-half h l w fits le lt =
-    above h l (value w) le ∙ ap (λ (n : ℕ). n / 2 ^ l) same ∙ sym (above h l (w .lo) le)
-  where
-    apart : 63 - h + (h + 1) ≡ 64
-    apart = omega arith
-
-    cut : value w % 2 ^ 64 % 2 ^ (h + 1) ≡ value w % 2 ^ (h + 1)
-    cut = ap (λ (k : ℕ). value w % 2 ^ k % 2 ^ (h + 1)) (sym apart) ∙ mod-mod-pow (value w) (63 - h) (h + 1)
-
-    same : value w % 2 ^ (h + 1) ≡ w .lo % 2 ^ (h + 1)
-    same = sym cut ∙ ap (λ (n : ℕ). n % 2 ^ (h + 1)) (low (w .hi) 64 fits)
+low-half h l w fits le lt = low-part 64 (w .hi) (w .lo) fits h l le lt
 
 -- Bits in the upper half are bits of that half, counted from 64.
 pub high-half : (h l : ℕ) (w : Word) → w .lo < 2 ^ 64 → 64 ≤ l → bits h l w ≡ (w .hi / 2 ^ (l - 64)) % 2 ^ (h + 1 - l)
 unfolding bits
-high-half h l w fits le = ap (λ (n : ℕ). n % 2 ^ (h + 1 - l)) (ap (λ (k : ℕ). value w / 2 ^ k) (sym e) ∙ sym (shr-shr (value w) 64 (l - 64)) ∙ ap (λ (n : ℕ). n / 2 ^ (l - 64)) (high (w .hi) 64 fits))
-  where
-    e : 64 + (l - 64) ≡ l
-    e = omega arith
+high-half h l w fits le = high-part 64 (w .hi) (w .lo) fits h l le
 
 -- The code's remainder by `1 << k`, in a width that holds it, is that by 2 ^ k.
 pub one-shl : (k w : ℕ) → k < w → (1 * 2 ^ k) % 2 ^ w ≡ 2 ^ k

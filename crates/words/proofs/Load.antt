@@ -9,7 +9,9 @@ use lib.Dec.{lit<}
 use lib.ListN.{length, getD, take, drop, length-drop, drop-of-length-le}
 use lib.Seq.{length-take-le, getD-take, getD-drop}
 use Rattle.words.specs.declared.Word.{Word}
-use Rattle.words.specs.Word.{number, wordOf, value, idOf, bits}
+use borrow.Author.Tests.{eq-eqb, ne-eqb}
+use Rattle.words.specs.declared.FromBuf.the-variants.{Is, Refused}
+use Rattle.words.specs.Word.{number, wordOf, value, idOf, bits, FromBufPost}
 
 -- The number of the bytes from a place on is that byte and 256 times those after it.
 peel : (b : List ℕ) (i : ℕ) → number (drop i b) ≡ getD b i 0 + 256 * number (drop (suc i) b)
@@ -73,3 +75,10 @@ id-at b at h byte =
     id-byte (take 10 (drop at b)) long (cut 10 (drop at b) (λ i. rw (getD-drop at b i 0) (byte (at + i))))
     ∙ getD-take 10 (drop at b) 9 0 (lit< tt)
     ∙ getD-drop at b 9 0
+
+-- What a buffer is read as: a word where it has ten bytes, else refusal 1.
+pub read-ten : (b : List ℕ) {w : Word} → length b ≡ 10 → w ≡ wordOf b → FromBufPost b (Is w)
+read-ten b e p = record { answer = simp (eq-eqb _ _ e) (ap Is p); number = simp (eq-eqb _ _ e); value = simp (eq-eqb _ _ e) p }
+
+pub read-none : (b : List ℕ) → (length b ≡ 10 → ⊥) → FromBufPost b (Refused 1)
+read-none b e = record { answer = simp (ne-eqb _ _ e); number = simp (ne-eqb _ _ e); value = simp (ne-eqb _ _ e) }

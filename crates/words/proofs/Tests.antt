@@ -2,7 +2,7 @@
 -- the goal.
 -- Assumes nothing.
 use Prim.Native.Nat.{ℕ, _≤_, _<_}
-use mathlib.Core.Path.{_≡_, refl, sym, ap}
+use mathlib.Core.Path.{_≡_, refl, sym, ap, _∙_}
 use mathlib.Core.Bool.{Bool, true, false, not, _&&_, _||_, true≢false}
 use mathlib.Core.Logic.{_↔_}
 use lib.Dec.{leb, ltb, eqb}
@@ -35,3 +35,16 @@ pub eq-is : (n m : ℕ) → (eqb n m ≡ true) ↔ (n ≡ m)
 eq-is n m = (eqb-true n m, eq-eqb n m)
 
 pub ruleset tests = (and-is, or-is, not-is, not-not, lt-is, le-is, eq-is)
+
+-- Two tests are one where each follows from the other.
+pub tests-agree : (a b : Bool) → (a ≡ true → b ≡ true) → (b ≡ true → a ≡ true) → a ≡ b
+tests-agree true b f g = sym (f refl)
+tests-agree false true f g = g refl
+tests-agree false false f g = refl
+
+-- Tests that are asked one after the other: the first that fails ends them, and behind one that holds the rest is left.
+pub fails : {r a : Bool} (rest : Bool) → r ≡ a → not r ≡ true → false ≡ (a && rest)
+fails {r} rest e h = simp (sym e ∙ not-true r h)
+
+pub holds : {r a s rest : Bool} → r ≡ a → not r ≡ false → s ≡ rest → s ≡ (a && rest)
+holds {r} e h l = simp (sym e ∙ not-false r h) l

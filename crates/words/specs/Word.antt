@@ -1,6 +1,7 @@
 -- Document 01, "Words": what a word of ten bytes is, and which bits of it a field is.
 -- Assumes nothing.
 use Prim.Native.Nat.{ℕ, _+_, _-_, _*_, _/_, _%_, _^_}
+use mathlib.Core.Path.{_≡_}
 use mathlib.Core.Bool.{Bool, cond}
 use mathlib.Core.List.{List, [], _∷_}
 use lib.Dec.{eqb}
@@ -45,3 +46,17 @@ idOf = bits 79 72
 -- Refusal 1: "word not 10 bytes".
 abbrev pub fromBuf : List ℕ → FromBuf
 fromBuf bytes = cond (eqb (length bytes) wordBytes) (Is (wordOf bytes)) (Refused 1)
+
+-- "Where an answer is an enum, a definition gives this paper's number and values for each of its cases": the refusal, or 0 and the word.
+abbrev pub refusalOf : FromBuf → ℕ
+refusalOf (Is w) = 0
+refusalOf (Refused n) = n
+
+abbrev pub wordIn : FromBuf → Word
+wordIn (Is w) = w
+wordIn (Refused n) = record { lo = 0; hi = 0 }
+
+pub record FromBufPost (bytes : List ℕ) (r : FromBuf) : Type 0 where
+  pub answer : r ≡ fromBuf bytes
+  pub number : refusalOf r ≡ cond (eqb (length bytes) wordBytes) 0 1
+  pub value : wordIn r ≡ cond (eqb (length bytes) wordBytes) (wordOf bytes) (record { lo = 0; hi = 0 })

@@ -2,7 +2,7 @@
 // Document 01, "Words"; the Rust's words/its/status_words.rs and the files below it.
 ghost use mathlib.Core.Path.{_≡_};
 ghost use Prim.Native.Nat.{_+_, _-_, _^_, _<_, _≤_};
-ghost use Rattle.words.specs.Word.{wordOf, fromBuf, idOf, bits, isSet};
+ghost use Rattle.words.specs.Word.{wordOf, FromBufPost, idOf, bits, isSet};
 
 pub mod cdw;
 pub mod data_words;
@@ -62,7 +62,7 @@ impl Word {
 
     // The word that a buffer is, or refusal 1 where it is not ten bytes.
     pub fn from_buf(buf: &[u8]) -> FromBuf
-        ensures { λ r. ⌜ r ≡ fromBuf (now (buf .entry)) ⌝ }
+        ensures { λ r. ⌜ FromBufPost (now (buf .entry)) r ⌝ }
     {
         if buf.len() != Word::SIZE {
             return FromBuf::Refused(Word::REFUSED_SIZE);

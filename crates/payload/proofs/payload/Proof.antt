@@ -1,14 +1,14 @@
 -- `payload` meets its contract: the loop keeps what `Going` says.
 -- Assumes nothing.
-use borrow.Author.Needs.{needs}
 use borrow.Author.Tests.{not-true, not-false}
 use denote.Ref.{now}
 use mathlib.Core.Path.{refl}
 use Prim.Native.Nat.{_-_}
 use lib.ListN.{length}
 use Rattle.records.proofs.Writing.{tail-long}
-use Rattle.payload.proofs.Loop.{Going, refused-1, refused-2, start, glided, used-low, word-left, ended, next, stopped}
+use Rattle.payload.proofs.Loop.{Going, refused-1, refused-2, start, used-low, word-left, ended, next, stopped}
 use native.Mathlib.Omega.{arith}
+use borrow.Author.Needs.{needs}
 use Rattle.payload.proofs.payload.Statement.{statement}
 use Rattle.payload.proofs.payload.Tie as tie
 
@@ -27,52 +27,38 @@ returns-2 c = refused-2 (c .before .before .before .before .before .pre) (c .bef
 loop-holds : tie.Need-loop-holds Inv-loop μ-loop
 loop-holds c = start (record { good = c .before .before .before .before .before .pre; accepted = not-false _ (c .if2 .left); whole = c .before .before .if1 .left; within = omega arith; between = refl })
 
-silent-words-requires : tie.Need-silent-words-requires Inv-loop μ-loop
-silent-words-requires c κs = c .before .loop .inv .ready
-
-returns-3 : tie.Need-returns-3 Inv-loop μ-loop
-returns-3 c = ended (glided (c .before .before .before .before .loop .inv) (c .before .before .silent-words .ensures)) (c .if3 .taken)
-
 mul-first-word : tie.Need-mul-first-word Inv-loop μ-loop
-mul-first-word c = omega (arith, used-low (c .before .before .before .before .before .loop .inv), c .before .before .before .before .before .loop .inv .same, c .before .before .before .before .before .before .before .before .before .before .before .good)
+mul-first-word c = omega (arith, used-low (c .before .before .loop .inv), c .before .before .loop .inv .same, c .before .before .before .before .before .before .before .before .good)
 
 sub-first-word-2 : tie.Need-sub-first-word-2 Inv-loop μ-loop
-sub-first-word-2 c = omega (arith, used-low (c .before .before .before .before .before .loop .inv))
+sub-first-word-2 c = omega (arith, used-low (c .before .before .loop .inv))
 
 part-first-word-start-2 : tie.Need-part-first-word-start-2 Inv-loop μ-loop
-part-first-word-start-2 c = used-low (c .before .before .before .before .before .loop .inv)
+part-first-word-start-2 c = used-low (c .before .before .loop .inv)
 
 first-word-requires : tie.Need-first-word-requires Inv-loop μ-loop
-first-word-requires c κs =
-    let g = glided (c .before .before .before .before .before .before .loop .inv) (c .before .before .before .before .silent-words .ensures) in
-    (g .ready .good, tail-long (c .before .before .before .before .silent-words .result .at) 10 (now (c .before .before .before .before .before .before .before .before .before .before .before .before .args .bytes)) (word-left g (c .before .before .if3 .left)))
+first-word-requires c κs = (c .before .before .before .loop .inv .ready .good, tail-long (c .before .before .before .loop .at) 10 (now (c .before .before .before .before .before .before .before .before .before .args .bytes)) (word-left (c .before .before .before .loop .inv) (c .before .before .loop-test .taken)))
 
 loop-again : tie.Need-loop-again Inv-loop μ-loop
-loop-again c =
-    let asked = c .before .before .before .before .before .before .before .before .before in
-    let word = c .before .before .before .before .before .before .first-word in
-    next (glided (asked .before .before .before .before .loop .inv) (asked .before .before .silent-words .ensures)) (asked .if3 .left) (word .ensures) (word .kept .1 .1 .0) (c .before .told .given .1)
+loop-again c = next (c .before .before .before .before .before .before .before .before .before .before .loop .inv) (c .before .before .before .before .before .before .before .before .before .loop-test .taken) (c .before .before .before .before .before .before .first-word .ensures) (c .before .before .before .before .before .before .first-word .kept .1 .1 .0) (c .before .told .given .1)
 
 add-at : tie.Need-add-at Inv-loop μ-loop
-add-at c = omega (arith, c .before .before .before .before .before .before .before .before .before .if3 .left, c .before .before .before .before .before .before .before .before .before .before .before .before .before .before .before .before .before .before .before .good)
+add-at c = omega (arith, c .before .before .before .before .before .before .before .before .before .loop-test .taken, c .before .before .before .before .before .before .before .before .before .before .before .before .before .before .before .before .good)
 
--- The invariant after the word bounds what is used.
 mul-used : tie.Need-mul-used Inv-loop μ-loop
-mul-used c = omega (arith, used-low (loop-again c), loop-again c .same, c .before .before .before .before .before .before .before .before .before .before .before .before .before .before .before .before .before .before .before .good)
+mul-used c = omega (arith, used-low (loop-again c), loop-again c .same, c .before .before .before .before .before .before .before .before .before .before .before .before .before .before .before .before .good)
 
 add-used : tie.Need-add-used Inv-loop μ-loop
-add-used c = omega (arith, used-low (loop-again c), loop-again c .same, c .before .before .before .before .before .before .before .before .before .before .before .before .before .before .before .before .before .before .before .good)
+add-used c = omega (arith, used-low (loop-again c), loop-again c .same, c .before .before .before .before .before .before .before .before .before .before .before .before .before .before .before .before .good)
 
 loop-less : tie.Need-loop-less Inv-loop μ-loop
-loop-less c = omega (arith, c .before .before .before .before .before .before .before .before .before .if3 .left, c .before .before .before .before .before .before .before .before .before .before .before .silent-words .ensures .onwards, c .before .before .before .before .before .before .before .before .before .before .before .before .loop-test .taken)
+loop-less c = omega (arith, c .before .before .before .before .before .before .before .before .before .loop-test .taken)
+
+returns-3 : tie.Need-returns-3 Inv-loop μ-loop
+returns-3 c = stopped (c .before .before .before .before .before .before .before .before .before .before .loop .inv) (c .before .before .before .before .before .before .before .before .before .loop-test .taken) (c .before .before .before .before .before .before .first-word .ensures) (c .before .told2 .given .1)
 
 returns-4 : tie.Need-returns-4 Inv-loop μ-loop
-returns-4 c =
-    let asked = c .before .before .before .before .before .before .before .before .before in
-    stopped (glided (asked .before .before .before .before .loop .inv) (asked .before .before .silent-words .ensures)) (asked .if3 .left) (c .before .before .before .before .before .before .first-word .ensures) (c .before .told2 .given .1)
-
-returns-5 : tie.Need-returns-5 Inv-loop μ-loop
-returns-5 c = ended (c .before .loop .inv) (c .loop-test .left)
+returns-4 c = ended (c .before .loop .inv) (c .loop-test .left)
 
 pub payload-spec : {M : Type 1} → statement M
-payload-spec = tie.close (tie.spec Inv-loop μ-loop returns returns-2 loop-holds silent-words-requires (λ c. search needs) returns-3 (λ c. search needs) (λ c. search needs) (λ c. search needs) mul-first-word sub-first-word-2 part-first-word-start-2 (λ c. search needs) first-word-requires (λ c. search needs) add-at mul-used add-used loop-less loop-again (λ c. search needs) (λ c. search needs) returns-4 (λ c. search needs) returns-5)
+payload-spec = tie.close (tie.spec Inv-loop μ-loop returns returns-2 loop-holds (λ c. search needs) (λ c. search needs) (λ c. search needs) mul-first-word sub-first-word-2 part-first-word-start-2 (λ c. search needs) first-word-requires (λ c. search needs) add-at mul-used add-used loop-less loop-again (λ c. search needs) (λ c. search needs) returns-3 (λ c. search needs) returns-4)

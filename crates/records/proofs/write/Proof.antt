@@ -19,10 +19,14 @@ abbrev μ-loop : tie.MeasureT-loop
 μ-loop out₀ position rows n used₀ i₀ out used i = 6 - i
 
 returns : tie.Need-returns Inv-loop μ-loop
-returns c = refused (c .before .before .before .args .position) (c .before .before .before .args .t3) (now (c .before .before .before .args .out)) (omega (arith, c .before .count .ensures, c .if1 .taken))
+returns c =
+    let s = c .before .before .before in
+    refused (s .args .position) (s .args .t3) (now (s .args .out)) (omega (arith, c .before .count .ensures, c .if1 .taken))
 
 loop-holds : tie.Need-loop-holds Inv-loop μ-loop
-loop-holds c = start (c .before .before .before .args .position) (c .before .before .before .args .t3) (now (c .before .before .before .args .out)) (omega (arith, counted (c .before .before .before .args .position) (c .before .before .before .args .t3), c .before .count .ensures))
+loop-holds c =
+    let s = c .before .before .before in
+    start (s .args .position) (s .args .t3) (now (s .args .out)) (omega (arith, counted (s .args .position) (s .args .t3), c .before .count .ensures))
 
 fits : (c : tie.Then2 Inv-loop μ-loop) → c .before .before .before .loop .used + 4 ≤ length (c .before .before .before .loop .out)
 fits c = has-room (c .before .before .before .loop .inv) (search needs) (c .if2 .taken)
@@ -47,7 +51,12 @@ loop-again c =
     ⊎-elim (λ w. more (c .before .before .before .loop .inv) (search needs) (w .0 .taken) (w .2 .ensures) (w .5) (w .6)) (λ w. skip (c .before .before .before .loop .inv) (search needs) (w .0 .left) (w .1) (w .2)) (c .if2 .came)
 
 returns-2 : tie.Need-returns-2 Inv-loop μ-loop
-returns-2 c = written (c .before .before .before .before .before .args .position) (c .before .before .before .before .before .args .t3) (now (c .before .before .before .before .before .args .out)) (c .before .loop .out) (c .before .loop .used) (c .before .loop .i) (c .before .before .before .count .result) (c .before .loop .inv) (search needs) (c .before .before .before .count .ensures) (omega (arith, c .before .before .before .count .ensures, c .before .before .if1 .left))
+returns-2 c =
+    let counted-at = c .before .before .before in
+    let s = counted-at .before .before in
+    written (s .args .position) (s .args .t3) (now (s .args .out)) (c .before .loop .out) (c .before .loop .used) (c .before .loop .k)
+    (counted-at .count .result) (c .before .loop .inv) (search needs) (counted-at .count .ensures)
+    (omega (arith, counted-at .count .ensures, c .before .before .if1 .left))
 
 pub write-spec : {M : Type 1} → statement M
 write-spec = tie.close (tie.spec Inv-loop μ-loop (λ c. search needs) returns loop-holds (λ c. search needs) (λ c. search needs) mul-put sub-put part-put-start (λ c. search needs) put-requires add-used (λ c. search needs) (λ c. search needs) loop-again (λ c. search needs) returns-2)

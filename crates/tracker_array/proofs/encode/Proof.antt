@@ -13,7 +13,9 @@ returns c = left (now (c .before .before .args .a)) (c .before .before .args .t)
 
 returns-2 : tie.Need-returns-2
 unfolding encodeOf
-returns-2 c = simp (c .before .before .stored .ensures, c .before .before .before .before .before .before .first .ensures) (all-set (encodeOf (c .before .before .before .before .before .before .before .before .before .before .before .args .t)) (now (c .before .before .before .before .before .before .before .before .before .before .before .args .a)) (c .before .before .before .before .before .before .before .before .before .if1 .left)) ∙ wrote (now (c .before .before .before .before .before .before .before .before .before .before .before .args .a)) (c .before .before .before .before .before .before .before .before .before .before .before .args .t) (c .before .before .before .before .before .before .before .before .before .if1 .left)
+returns-2 c =
+    let c6 = c .before .before .before .before .before .before in
+    simp (c .before .before .stored .ensures, c6 .first .ensures) (all-set (encodeOf (c6 .before .before .before .before .before .args .t)) (now (c6 .before .before .before .before .before .args .a)) (c6 .before .before .before .if1 .left)) ∙ wrote (now (c6 .before .before .before .before .before .args .a)) (c6 .before .before .before .before .before .args .t) (c6 .before .before .before .if1 .left)
 
 pub encode-spec : {M : Type 1} → statement M
 encode-spec = tie.close (tie.spec returns (λ c. search needs) (λ c. search needs) (λ c. search needs) returns-2)

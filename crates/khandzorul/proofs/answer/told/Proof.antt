@@ -5,10 +5,15 @@ use Rattle.khandzorul.proofs.answer.told.Statement.{statement}
 use Rattle.khandzorul.proofs.answer.told.Tie as tie
 
 returns : tie.Need-returns
-returns c = simp (c .before .before .before .before .before .before .told .given .1, c .before .before .before .flag .ensures, c .before .before .before .before .kind-number .ensures, c .before .before .frame-number .ensures, c .before .frame-start .ensures, c .frame-end .ensures)
+returns c =
+    let c6 = c .before .before .before .before .before .before in
+    simp (c6 .told .given .1, c .before .before .before .flag .ensures, c .before .before .before .before .kind-number .ensures, c .before .before .frame-number .ensures, c .before .frame-start .ensures, c .frame-end .ensures)
 
 returns-2 : tie.Need-returns-2
 returns-2 c = simp (c .before .before .told2 .given .1, c .refused .ensures)
 
 pub told-spec : {M : Type 1} → statement M
-told-spec = tie.close (tie.spec (λ c. search needs) (λ c. search needs) (λ c. search needs) (λ c. search needs) (λ c. search needs) (λ c. search needs) (λ c. search needs) (λ c. search needs) (λ c. search needs) (λ c. search needs) (λ c. search needs) returns returns-2)
+told-spec =
+    tie.close
+    (tie.spec (λ c. search needs) (λ c. search needs) (λ c. search needs) (λ c. search needs) (λ c. search needs) (λ c. search needs)
+    (λ c. search needs) (λ c. search needs) (λ c. search needs) (λ c. search needs) (λ c. search needs) returns returns-2)

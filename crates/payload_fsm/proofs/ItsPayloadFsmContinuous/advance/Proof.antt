@@ -8,7 +8,7 @@ returns : tie.Need-returns
 returns c = simp (c .before .enum-told .given .1, c .taken .ensures)
 
 returns-2 : tie.Need-returns-2
-returns-2 c = simp (c .before .before .enum-told2 .given .1, c .before .after-tdh .ensures, c .taken2 .ensures)
+returns-2 c = simp (c .before .enum-told2 .given .1, c .before .before .before .after-tdh .ensures, c .taken2 .ensures)
 
 returns-3 : tie.Need-returns-3
 returns-3 c = simp (c .before .enum-told3 .given .1, c .in-data .ensures)

@@ -5,7 +5,11 @@ use Rattle.tracker_array.proofs.write.first.Statement.{statement}
 use Rattle.tracker_array.proofs.write.first.Tie as tie
 
 returns : tie.Need-returns
-returns c = simp (c .before .before .reached .ensures, c .before .before .before .before .before .before .packet .ensures, c .before .before .before .before .before .before .before .before .before .before .accepted .ensures, c .before .before .before .before .before .before .before .before .before .before .before .before .before .before .settings .ensures, c .before .before .before .before .before .before .before .before .before .before .before .before .before .before .before .before .before .before .mark .ensures)
+returns c =
+    let c6 = c .before .before .before .before .before .before in
+    let c12 = c6 .before .before .before .before .before .before in
+    let c18 = c12 .before .before .before .before .before .before in
+    simp (c .before .before .reached .ensures, c6 .packet .ensures, c6 .before .before .before .before .accepted .ensures, c12 .before .before .settings .ensures, c18 .mark .ensures)
 
 pub first-spec : {M : Type 1} → statement M
 first-spec = tie.close (tie.spec (λ c. search needs) (λ c. search needs) (λ c. search needs) (λ c. search needs) (λ c. search needs) (λ c. search needs) returns)

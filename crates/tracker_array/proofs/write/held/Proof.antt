@@ -14,4 +14,7 @@ returns : tie.Need-returns
 returns c = simp (c .flag .ensures, add-one)
 
 pub held-spec : {M : Type 1} → statement M
-held-spec = tie.close (tie.spec (λ c. search needs) (λ c. search needs) (λ c. search needs) (λ c. search needs) (λ c. search needs) slice-write-a-2 (λ c. search needs) returns)
+held-spec =
+    tie.close
+    (tie.spec (λ c. search needs) (λ c. search needs) (λ c. search needs) (λ c. search needs) (λ c. search needs) slice-write-a-2
+    (λ c. search needs) returns)

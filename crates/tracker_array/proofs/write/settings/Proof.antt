@@ -8,4 +8,7 @@ returns : tie.Need-returns
 returns c = simp (c .before .before .before .flag .ensures, c .before .before .flag2 .ensures, c .before .flag3 .ensures)
 
 pub settings-spec : {M : Type 1} → statement M
-settings-spec = tie.close (tie.spec (λ c. search needs) (λ c. search needs) (λ c. search needs) (λ c. search needs) (λ c. search needs) (λ c. search needs) (λ c. search needs) (λ c. search needs) (λ c. search needs) returns)
+settings-spec =
+    tie.close
+    (tie.spec (λ c. search needs) (λ c. search needs) (λ c. search needs) (λ c. search needs) (λ c. search needs) (λ c. search needs)
+    (λ c. search needs) (λ c. search needs) (λ c. search needs) returns)

@@ -5,7 +5,14 @@ use Rattle.tracker_array.proofs.write.stored.Statement.{statement}
 use Rattle.tracker_array.proofs.write.stored.Tie as tie
 
 returns : tie.Need-returns
-returns c = simp (c .before .before .rest .ensures, c .before .before .before .before .before .before .held4 .ensures, c .before .before .before .before .before .before .before .before .before .before .held3 .ensures, c .before .before .before .before .before .before .before .before .before .before .before .before .before .before .held2 .ensures, c .before .before .before .before .before .before .before .before .before .before .before .before .before .before .before .before .before .before .before .tdh .ensures, c .before .before .before .before .before .before .before .before .before .before .before .before .before .before .before .before .before .before .before .before .before .before .before .held .ensures)
+returns c =
+    let c6 = c .before .before .before .before .before .before in
+    let c12 = c6 .before .before .before .before .before .before in
+    let c18 = c12 .before .before .before .before .before .before in
+    simp (c .before .before .rest .ensures, c6 .held4 .ensures, c6 .before .before .before .before .held3 .ensures, c12 .before .before .held2 .ensures, c18 .before .tdh .ensures, c18 .before .before .before .before .before .held .ensures)
 
 pub stored-spec : {M : Type 1} → statement M
-stored-spec = tie.close (tie.spec (λ c. search needs) (λ c. search needs) (λ c. search needs) (λ c. search needs) (λ c. search needs) (λ c. search needs) (λ c. search needs) (λ c. search needs) (λ c. search needs) returns)
+stored-spec =
+    tie.close
+    (tie.spec (λ c. search needs) (λ c. search needs) (λ c. search needs) (λ c. search needs) (λ c. search needs) (λ c. search needs)
+    (λ c. search needs) (λ c. search needs) (λ c. search needs) returns)

@@ -1,0 +1,36 @@
+-- The packet call and the reset on the numbers of a tracker.
+-- Assumes nothing.
+use mathlib.Core.Path.{_≡_, refl, sym, ap, _∙_}
+use mathlib.Core.Bool.{Bool, true, false}
+use mathlib.Core.List.{List}
+use Prim.Native.Nat.{ℕ}
+use lib.ListN.{set}
+use borrow.Author.Tests.{not-true, not-false}
+use mathlib.Core.Bool.{not}
+use Rattle.validators.specs.declared.Packet.{Packet}
+use Rattle.cdp_running.specs.Tracker.{acceptOf, inRange, packetCall}
+use Rattle.tracker_array.specs.Array.{encodeOf}
+use Rattle.tracker_array.specs.Read.{trackerIn}
+use Rattle.tracker_array.specs.Good.{GoodArray}
+use Rattle.in_place.specs.Calls.{PacketInPlace, ResetInPlace}
+use Rattle.in_place.proofs.Storing.{resets}
+use Rattle.in_place.proofs.Kept.{kept-packet, kept-reset, good-after}
+
+module _ (a : List ℕ) (h : GoodArray a) where
+  -- What the ranges say: r is the code's answer.
+  module _ (p : Packet) {r : Bool} (asked : r ≡ inRange p) where
+    pub packet-refused : not r ≡ true → PacketInPlace a p 5 a
+    unfolding packetCall
+    packet-refused e = let out = sym asked ∙ not-true r e in record { answer = simp out; numbers = simp out (h .own); good = h }
+
+    pub packet-done : {after : List ℕ} → not r ≡ false → after ≡ encodeOf (acceptOf (trackerIn a) p) → PacketInPlace a p 0 after
+    unfolding packetCall
+    packet-done {after} e q =
+        let within = sym asked ∙ not-false r e in
+        let numbers : after ≡ encodeOf (packetCall (trackerIn a) p .tracker) = simp within q in
+        record { answer = simp within; numbers = numbers; good = good-after numbers (kept-packet (trackerIn a) (h .good, h .sized) p) }
+
+  pub reset-done : {n : ℕ} → n ≡ 0 → ResetInPlace a (set a 13 n)
+  reset-done e =
+      let numbers = ap (λ (k : ℕ). set a 13 k) e ∙ resets a h in
+      record { numbers = numbers; good = good-after numbers (kept-reset (trackerIn a) (h .good, h .sized)) }

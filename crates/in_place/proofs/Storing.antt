@@ -1,0 +1,122 @@
+-- What a word or a packet stores among a tracker's numbers makes them those of the tracker after it.
+-- Assumes nothing.
+use Prim.Native.Nat.{ℕ, _+_}
+use mathlib.Core.Path.{_≡_, refl, ap, sym, _∙_}
+use mathlib.Core.Bool.{Bool, true, false, cond, not, _&&_}
+use mathlib.Core.List.{List, [], _∷_}
+use lib.Dec.{eqb}
+use lib.ListN.{set}
+use lib.Seq.{sets}
+use Rattle.words.specs.declared.Word.{Word}
+use Rattle.words.specs.Tdh.{triggerType, triggerBc, triggerOrbit, internalTrigger, continuation}
+use Rattle.words.specs.Cdw.{userFields}
+use Rattle.words.specs.Tdt.{packetDone}
+use Rattle.payload_fsm.specs.declared.Advanced.{Advanced}
+use Rattle.payload_fsm.specs.declared.State.{State}
+use Rattle.payload_fsm.specs.declared.ItsPayloadWord.{ItsPayloadWord}
+use Rattle.payload_fsm.specs.declared.ItsPayloadWord.the-variants as K
+use Rattle.validators.specs.declared.StoredTdh.{StoredTdh}
+use Rattle.validators.specs.declared.InternalTdh.{InternalTdh}
+use Rattle.validators.specs.declared.StoredCdw.{StoredCdw}
+use Rattle.validators.specs.DataWords.{firstCdw}
+use Rattle.cdp_running.specs.declared.Frame.{Frame}
+use Rattle.cdp_running.specs.declared.Tracker.{Tracker}
+use Rattle.validators.specs.declared.Packet.{Packet}
+use Rattle.cdp_running.specs.Tracker.{noFrame, acceptOf, resetOf}
+use Rattle.cdp_running.specs.Next.{nextOf}
+use Rattle.cdp_running.specs.Word.{positionNow}
+use Rattle.tracker_array.specs.Array.{packetNumbers, stateNumber, encodeOf}
+use Rattle.tracker_array.specs.Read.{place, isOn, trackerIn}
+use Rattle.tracker_array.specs.Good.{GoodArray}
+use Rattle.tracker_array.proofs.Laws.{flag-back}
+use Rattle.in_place.specs.Storing.{storesOf, tdhStores, putIf}
+use Rattle.in_place.proofs.QuietId.{quietNext}
+
+module _ (t : Tracker) (s : State) (w : Word) where
+  -- State and count.
+  abbrev moved : List ℕ
+  moved = sets (encodeOf t) 13 (stateNumber s ∷ (t .count + 1) ∷ [])
+
+  -- Some of what is stored, all else as it was.
+  abbrev with : Bool → StoredTdh → InternalTdh → StoredCdw → Frame → List ℕ
+  with seen tdh internal cdw frame =
+      encodeOf (record { settings = t .settings; accepted = t .accepted; packet = t .packet; fsm = record { state = s }; count = t .count + 1; seen = seen; ihw = t .ihw; tdh = tdh; internal = internal; cdw = cdw; frame = frame })
+
+  -- What is stored under a condition is stored, or stays.
+  tdh-if : (internal opens : Bool) (here : ℕ)
+      → putIf opens 26 (1 ∷ here ∷ []) (putIf internal 22 (1 ∷ triggerBc w ∷ []) (sets moved 18 (1 ∷ triggerType w ∷ triggerBc w ∷ triggerOrbit w ∷ [])))
+      ≡ with (t .seen) (record { stored = true; trigger = triggerType w; bc = triggerBc w; orbit = triggerOrbit w }) (cond internal (record { stored = true; bc = triggerBc w }) (t .internal)) (t .cdw) (cond opens (record { live = true; start = here }) (t .frame))
+  unfolding encodeOf
+  tdh-if true true here = refl
+  tdh-if true false here = refl
+  tdh-if false true here = refl
+  tdh-if false false here = refl
+
+  data-if : (first : Bool) → sets (putIf first 24 (1 ∷ userFields w ∷ []) moved) 15 (1 ∷ []) ≡ with true (t .tdh) (t .internal) (cond first (record { stored = true; user = userFields w }) (t .cdw)) (t .frame)
+  unfolding encodeOf
+  data-if true = refl
+  data-if false = refl
+
+  tdt-if : (closes : Bool) → putIf closes 26 (0 ∷ 0 ∷ []) moved ≡ with (t .seen) (t .tdh) (t .internal) (t .cdw) (cond closes noFrame (t .frame))
+  unfolding encodeOf
+  tdt-if true = refl
+  tdt-if false = refl
+
+  tdh-is : (kind : ItsPayloadWord) → ((l : List ℕ) → storesOf kind w (positionNow t) l ≡ storesOf K.Tdh w (positionNow t) l)
+      → (g : Bool) → encodeOf (nextOf t (record { word = kind; guessed = g; fsm = record { state = s } }) w) ≡ encodeOf (nextOf t (record { word = K.Tdh; guessed = g; fsm = record { state = s } }) w)
+      → storesOf kind w (positionNow t) moved ≡ encodeOf (nextOf t (record { word = kind; guessed = g; fsm = record { state = s } }) w)
+  unfolding encodeOf
+  tdh-is kind p g q =
+      p moved ∙ simp flag-back (tdh-if (eqb (internalTrigger w) 1) (t .settings .frames && (not (t .frame .live) && eqb (continuation w) 0)) (positionNow t)) ∙ sym q
+
+  by-kind : (kind : ItsPayloadWord) (g : Bool) → storesOf kind w (positionNow t) moved ≡ encodeOf (nextOf t (record { word = kind; guessed = g; fsm = record { state = s } }) w)
+  unfolding encodeOf
+  by-kind K.Ihw g = refl
+  by-kind K.IhwContinuation g = refl
+  by-kind K.Tdh g = tdh-is K.Tdh (λ l. refl) g refl
+  by-kind K.TdhAfterPacketDone g = tdh-is K.TdhAfterPacketDone (λ l. refl) g refl
+  by-kind K.TdhContinuation g = tdh-is K.TdhContinuation (λ l. refl) g refl
+  by-kind K.DataWord g = simp flag-back (data-if (firstCdw (t .seen) w))
+  by-kind K.Cdw g = simp flag-back (data-if (firstCdw (t .seen) w))
+  by-kind K.Tdt g = simp flag-back (tdt-if (t .settings .frames && packetDone w))
+  by-kind K.Ddw0 g = refl
+
+-- What the code stores for a TDH, one part after the other.
+pub tdh-stored : (w : Word) (l : List ℕ) (here : ℕ) {bc : ℕ} {internal opens : Bool} {first second last : List ℕ} → bc ≡ triggerBc w → internal ≡ eqb (internalTrigger w) 1
+    → opens ≡ (isOn (place l 2) && (not (isOn (place l 26)) && eqb (continuation w) 0)) → first ≡ sets l 18 (1 ∷ triggerType w ∷ triggerBc w ∷ triggerOrbit w ∷ [])
+    → second ≡ putIf internal 22 (1 ∷ bc ∷ []) first → last ≡ putIf opens 26 (1 ∷ here ∷ []) second → last ≡ tdhStores w here l
+tdh-stored w l here b n o p q r =
+    r ∙ (λ i. putIf (o i) 26 (1 ∷ here ∷ []) (q i))
+    ∙ (λ i. putIf (isOn (place l 2) && (not (isOn (place l 26)) && eqb (continuation w) 0)) 26 (1 ∷ here ∷ []) (putIf (n i) 22 (1 ∷ b i ∷ []) (p i)))
+
+-- One law for all kinds.
+pub stores-next : (t : Tracker) (a : Advanced) (w : Word)
+    → storesOf (a .word) w (positionNow t) (sets (encodeOf t) 13 (stateNumber (a .fsm .state) ∷ (t .count + 1) ∷ [])) ≡ encodeOf (nextOf t a w)
+stores-next t a w = by-kind t (a .fsm .state) w (a .word) (a .guessed)
+
+-- The same on numbers that are a tracker's.
+pub good-next : (l : List ℕ) (a : Advanced) (w : Word) → GoodArray l
+    → storesOf (a .word) w (positionNow (trackerIn l)) (sets l 13 (stateNumber (a .fsm .state) ∷ (place l 14 + 1) ∷ [])) ≡ encodeOf (nextOf (trackerIn l) a w)
+good-next l a w h =
+    ap (λ (x : List ℕ). storesOf (a .word) w (positionNow (trackerIn l)) (sets x 13 (stateNumber (a .fsm .state) ∷ (place l 14 + 1) ∷ []))) (h .own)
+    ∙ stores-next (trackerIn l) a w
+
+-- The same, with what the code stored on the way.
+pub by-stores : (l : List ℕ) (a : Advanced) (w : Word) (kind : ItsPayloadWord) {here : ℕ} {first last : List ℕ} → GoodArray l → here ≡ positionNow (trackerIn l) → a .word ≡ kind
+    → first ≡ sets l 13 (stateNumber (a .fsm .state) ∷ (place l 14 + 1) ∷ []) → last ≡ storesOf kind w here first → last ≡ encodeOf (nextOf (trackerIn l) a w)
+by-stores l a w kind h p e q r = r ∙ (λ i. storesOf (sym e i) w (p i) (q i)) ∙ good-next l a w h
+
+-- A packet that is accepted, and a reset.
+pub accepts : (l : List ℕ) (p : Packet) → GoodArray l
+    → set (set (sets (set l 5 1) 6 (packetNumbers p)) 14 0) 15 0 ≡ encodeOf (acceptOf (trackerIn l) p)
+unfolding encodeOf
+accepts l p h = ap (λ (x : List ℕ). set (set (sets (set x 5 1) 6 (packetNumbers p)) 14 0) 15 0) (h .own)
+
+pub resets : (l : List ℕ) → GoodArray l → set l 13 0 ≡ encodeOf (resetOf (trackerIn l))
+unfolding encodeOf
+resets l h = ap (λ (x : List ℕ). set x 13 0) (h .own)
+
+-- So many quiet data words.
+pub counts : (l : List ℕ) (n : ℕ) → GoodArray l → set (set l 14 (place l 14 + n)) 15 1 ≡ encodeOf (quietNext (trackerIn l) n)
+unfolding encodeOf
+counts l n h = ap (λ (x : List ℕ). set (set x 14 (place l 14 + n)) 15 1) (h .own)

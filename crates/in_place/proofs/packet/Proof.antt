@@ -1,0 +1,18 @@
+-- `packet` meets its contract.
+-- Assumes nothing.
+use denote.Ref.{now}
+use Rattle.in_place.proofs.Packets.{packet-refused, packet-done}
+use borrow.Author.Needs.{needs}
+use Rattle.in_place.proofs.packet.Statement.{statement}
+use Rattle.in_place.proofs.packet.Tie as tie
+
+returns : tie.Need-returns
+returns c = packet-refused (now (c .before .before .before .args .a)) (c .before .before .before .pre) _ (c .before .are-in-range .ensures) (c .if1 .taken)
+
+returns-2 : tie.Need-returns-2
+returns-2 c =
+    let c6 = c .before .before .before .before .before .before in
+    packet-done (now (c6 .before .args .a)) (c6 .before .pre) _ (c .before .before .before .before .before .are-in-range .ensures) (c .before .before .before .before .if1 .left) (c .before .before .packet .ensures)
+
+pub packet-spec : {M : Type 1} → statement M
+packet-spec = tie.close (tie.spec (λ c. search needs) returns (λ c. search needs) (λ c. search needs) returns-2)

@@ -1,0 +1,18 @@
+-- `write` meets its contract.
+-- Assumes nothing.
+use denote.Ref.{now}
+use Rattle.cdp_running.specs.Word.{rowsOf}
+use Rattle.tracker_array.specs.Read.{trackerIn}
+use Rattle.in_place.proofs.Steps.{quiet-wrote, of-rows}
+use borrow.Author.Needs.{needs}
+use Rattle.in_place.proofs.rows.write.Statement.{statement}
+use Rattle.in_place.proofs.rows.write.Tie as tie
+
+returns : tie.Need-returns
+returns c = quiet-wrote (c .before .before .before .before .args .here) (rowsOf (trackerIn (now (c .before .before .before .before .args .a))) (c .before .before .before .before .args .taken) (c .before .before .before .before .args .word)) (now (c .before .before .before .before .args .out)) (c .before .is-silent .ensures (c .if1 .taken))
+
+returns-2 : tie.Need-returns-2
+returns-2 c = of-rows (c .before .before .before .rows .ensures) (c .before .before .write .ensures)
+
+pub write-spec : {M : Type 1} → statement M
+write-spec = tie.close (tie.spec (λ c. search needs) returns (λ c. search needs) (λ c. search needs) (λ c. search needs) returns-2)

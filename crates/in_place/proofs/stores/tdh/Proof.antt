@@ -1,0 +1,27 @@
+-- `tdh` meets its contract.
+-- Assumes nothing.
+use denote.Ref.{now}
+use mathlib.Core.Path.{ap}
+use mathlib.Core.Bool.{not, _&&_}
+use Prim.Native.Nat.{ℕ}
+use lib.Dec.{eqb}
+use Rattle.tracker_array.specs.Read.{place, isOn}
+use Rattle.in_place.proofs.Storing.{tdh-stored}
+use borrow.Author.Needs.{needs}
+use Rattle.in_place.proofs.stores.tdh.Statement.{statement}
+use Rattle.in_place.proofs.stores.tdh.Tie as tie
+
+returns : tie.Need-returns
+returns c =
+    let c6 = c .before .before .before .before .before .before in
+    let c12 = c6 .before .before .before .before .before .before in
+    let c18 = c12 .before .before .before .before .before .before in
+    let l = now (c18 .args .a) in
+    tdh-stored (c18 .args .word) l (c18 .args .here) (c12 .before .before .before .before .trigger-bc .ensures) (ap (λ (n : ℕ). eqb n 1) (c12 .before .before .internal-trigger .ensures))
+    (ap (λ (n : ℕ). isOn (place l 2) && (not (isOn (place l 26)) && eqb n 0)) (c12 .before .before .before .continuation .ensures)) (c6 .before .before .before .before .tdh-fields .ensures) (c6 .put-if .ensures) (c .before .before .put-if2 .ensures)
+
+pub tdh-spec : {M : Type 1} → statement M
+tdh-spec =
+    tie.close
+    (tie.spec (λ c. search needs) (λ c. search needs) (λ c. search needs) (λ c. search needs) (λ c. search needs) (λ c. search needs)
+    (λ c. search needs) (λ c. search needs) (λ c. search needs) (λ c. search needs) returns)

@@ -1,0 +1,68 @@
+-- Quiet data words: they give no record, and their id alone tells it. It is a data id whose lane is active, or any data id without running checks.
+-- Assumes nothing.
+use Prim.Native.Nat.{ℕ, _+_, _-_, _*_, _/_, _%_, _≤_, _<_, _^_}
+use mathlib.Core.Path.{_≡_}
+use mathlib.Core.Bool.{Bool, true, false, cond, not, _&&_, _||_}
+use mathlib.Core.List.{List}
+use lib.Dec.{leb, ltb, eqb}
+use lib.ListN.{length, getD, set}
+use Rattle.words.specs.Word.{wordBytes}
+use Rattle.words.specs.DataIds.{isDataId, innerLane, outerLane}
+use Rattle.words.specs.Lanes.{isLaneActive}
+use Rattle.payload_fsm.specs.declared.State.{State}
+use Rattle.payload_fsm.specs.declared.State.the-variants as S
+use Rattle.cdp_running.specs.Tracker.{maxWords}
+use Rattle.tracker_array.specs.Read.{place, isOn, trackerIn}
+
+-- The lane of a data id.
+abbrev pub laneOf : ℕ → ℕ
+laneOf id = cond (ltb id 0x40) (innerLane id) (outerLane id)
+
+abbrev pub quietId : ℕ → ℕ → Bool
+quietId lanes id = isDataId id && isLaneActive (laneOf id) lanes
+
+-- The lanes that need not be asked: all, without running checks.
+abbrev pub checkedLanes : Bool → ℕ → ℕ
+checkedLanes running lanes = cond running lanes (2 ^ 28 - 1)
+
+-- DATA_ and c_DATA_.
+abbrev pub amongData : State → Bool
+amongData S.Ihw = false
+amongData S.Tdh = false
+amongData S.Data = true
+amongData S.CData = true
+amongData S.Three = false
+amongData S.CIhw = false
+amongData S.CTdh = false
+
+-- Ids from 32 to 95 as the bits of one number: bit i stands for the id whose remainder by 64 is i.
+abbrev pub hasId : ℕ → ℕ → Bool
+hasId ids id = not (ltb id 32 || leb 96 id) && eqb (ids / 2 ^ (id % 64) % 2) 1
+
+pub record QuietIds (lanes ids : ℕ) : Type 0 where
+  pub each : (id : ℕ) → id < 256 → hasId ids id ≡ quietId lanes id
+
+-- The id of word i from a place on.
+abbrev pub idAt : List ℕ → ℕ → ℕ → ℕ
+idAt bytes at i = getD bytes (at + wordBytes * i + 9) 0
+
+-- The words from one place to another have such ids.
+pub record HaveIds (ids : ℕ) (bytes : List ℕ) (at end to : ℕ) : Type 0 where
+  pub n : ℕ
+  pub to-is : to ≡ at + wordBytes * n
+  pub within : to ≤ end
+  pub each : (i : ℕ) → i < n → hasId ids (idAt bytes at i) ≡ true
+
+-- n words from a place on are quiet data words, and the packet still takes them.
+pub record QuietTo (a bytes : List ℕ) (at to : ℕ) : Type 0 where
+  pub n : ℕ
+  pub to-is : to ≡ at + wordBytes * n
+  pub within : to ≤ length bytes
+  pub room : place a 14 + n ≤ maxWords
+  pub among : (n ≡ 0 → ⊥) → amongData (trackerIn a .fsm .state) ≡ true
+  pub each : (i : ℕ) → i < n → quietId (checkedLanes (isOn (place a 1)) (place a 17)) (idAt bytes at i) ≡ true
+
+-- They are taken: they are counted, and data is seen.
+pub record Passed (a bytes : List ℕ) (at to : ℕ) (after : List ℕ) : Type 0 where
+  pub quiet : QuietTo a bytes at to
+  pub numbers : after ≡ cond (eqb (quiet .n) 0) a (set (set a 14 (place a 14 + quiet .n)) 15 1)

@@ -1,0 +1,78 @@
+// One word of a payload on the numbers of a tracker: what it is taken as, where it stands, its records, and what it stores.
+ghost use mathlib.Core.Path.{_≡_};
+ghost use Prim.Native.Nat.{_+_, _≤_, _<_};
+ghost use lib.ListN.{length, take, drop};
+ghost use Rattle.words.specs.Word.{wordBytes, wordOf};
+ghost use Rattle.cdp_running.specs.Tracker.{maxWords};
+ghost use Rattle.cdp_running.specs.Word.{takenAs, positionNow};
+ghost use Rattle.tracker_array.specs.Read.{place, trackerIn};
+ghost use Rattle.tracker_array.specs.Good.{GoodArray};
+ghost use Rattle.in_place.specs.Calls.{StepInPlace};
+use crate::rows;
+use crate::stores;
+use payload_fsm::Advanced;
+use payload_fsm::ItsPayloadFsmContinuous;
+use records::Written;
+use tracker_array::place;
+use tracker_array::states;
+use words::Word;
+
+// The word at a place of a payload.
+pub(crate) fn load_at(bytes: &[u8], at: usize) -> Word
+    requires { ⌜ at + wordBytes ≤ length (now bytes) ⌝ }
+    ensures { λ r. ⌜ r ≡ wordOf (take wordBytes (drop at (now (bytes .entry)))) ⌝ }
+{
+    Word::load([
+        bytes[at],
+        bytes[at + 1],
+        bytes[at + 2],
+        bytes[at + 3],
+        bytes[at + 4],
+        bytes[at + 5],
+        bytes[at + 6],
+        bytes[at + 7],
+        bytes[at + 8],
+        bytes[at + 9],
+    ])
+}
+
+// Where the next word stands.
+pub(crate) fn position(a: &[u64]) -> u64
+    requires { ⌜ GoodArray (now a) ⌝ }
+    ensures { λ r. ⌜ r ≡ positionNow (trackerIn (now (a .entry))) ⌝ }
+{
+    let first = a[place::POSITION] + 64;
+    if a[place::FORMAT] == 0 {
+        first + a[place::COUNT] * 16
+    } else {
+        first + a[place::COUNT] * 10
+    }
+}
+
+// What a word is taken as.
+pub(crate) fn taken_as(a: &[u64], word: Word) -> Advanced
+    requires { ⌜ GoodArray (now a) ⌝ }
+    ensures { λ r. ⌜ r ≡ takenAs (trackerIn (now (a .entry))) word ⌝ }
+{
+    let fsm = ItsPayloadFsmContinuous {
+        state: states::state_of(a[place::STATE]),
+    };
+    fsm.advance(word)
+}
+
+// One word at a place of a payload, which the packet still takes. Where there is no room for its records all stays.
+pub(crate) fn step(a: &mut [u64], bytes: &[u8], at: usize, out: &mut [u64]) -> Written
+    requires { ⌜ GoodArray (now a) ⌝ }
+    requires { ⌜ place (now a) 14 < maxWords ⌝ }
+    requires { ⌜ at + wordBytes ≤ length (now bytes) ⌝ }
+    ensures { λ r. ⌜ StepInPlace (now (a .entry)) (wordOf (take wordBytes (drop at (now (bytes .entry))))) (now (out .entry)) r (now (a .exit)) (now (out .exit)) ⌝ }
+{
+    let word = load_at(bytes, at);
+    let taken = taken_as(a, word);
+    let here = position(a);
+    let Written::Records(n) = rows::write(a, taken, word, here, out) else {
+        return Written::NoRoom;
+    };
+    stores::word(a, taken, word, here);
+    Written::Records(n)
+}

@@ -1,0 +1,26 @@
+-- `tdh` meets its contract: three numbers beside one flag.
+-- Assumes nothing.
+use denote.Ref.{now}
+use mathlib.Core.Path.{_≡_}
+use mathlib.Core.Bool.{_&&_, _||_}
+use mathlib.Core.List.{List}
+use Prim.Native.Nat.{ℕ}
+use lib.Dec.{ltb, eqb}
+use Rattle.tracker_array.specs.Read.{place, isOn, tdhIn, tdhGood}
+use Rattle.tracker_array.proofs.Kept.{three}
+use borrow.Author.Needs.{needs}
+use Rattle.tracker_array.proofs.test.tdh.Statement.{statement}
+use Rattle.tracker_array.proofs.test.tdh.Tie as tie
+
+returns : tie.Need-returns
+returns c =
+    let c6 = c .before .before .before .before .before .before in
+    let l = now (c6 .before .before .args .a) in
+    simp (c .before .before .before .before .fits2 .ensures, c .before .before .fits3 .ensures, c .fits4 .ensures)
+    (three (isOn (place l 18)) (ltb (place l 19) 0x1000) (ltb (place l 20) 0x1000) (ltb (place l 21) 0x100000000) (eqb (place l 19) 0) (eqb (place l 20) 0) (eqb (place l 21) 0))
+
+pub tdh-spec : {M : Type 1} → statement M
+tdh-spec =
+    tie.close
+    (tie.spec (λ c. search needs) (λ c. search needs) (λ c. search needs) (λ c. search needs) (λ c. search needs) (λ c. search needs)
+    (λ c. search needs) returns)
