@@ -3,22 +3,24 @@
 
     compare.py [--lib ARCHIVE | --plain] [--size short|long] [--seed N] [--build DIR] [--keep DIR]
 
-Kinds, guesses, frames, positions, codes, first, second and their order are compared. A word's answers must be equal, or differ exactly
-as model.py says from the input alone; anything else is unexplained and fails the run. The library's side also checks what the header
-promises (khz_driver -c). Everything is built in a temporary folder.
+First come the inputs of smallest/: the library, the Rust's release build and its debug build must answer them as each file says (smallest.py).
+Of the generated sequences kinds, guesses, frames, positions, codes, first, second and their order are compared, with the release build. A word's
+answers must be equal, or differ exactly as model.py says from the input alone; anything else is unexplained and fails the run. The library's
+side also checks what the header promises (khz_driver -c). Everything is built in a temporary folder.
 
     --lib     the archive, for this machine; default: tools/native-lib.sh makes it. --plain takes bench/plain.c in its place
     --build   builds the Rust in DIR and leaves it there for the next run
-    --keep    leaves the calls and both sides' answers in DIR: calls.txt, ours.txt, rust.txt
+    --keep    leaves the calls and the answers in DIR: calls.txt, ours.txt, rust.txt; of smallest/ for the debug build smallest.txt, debug.txt;
+              of single functions single.txt, release.single.txt, debug.single.txt
     RUST_SRC  the given Rust text, default ../shared/docs/src beside the repository; without it, or without cargo, the comparison is left out, and the last
               line says so
     CC, CFLAGS  the C compiler (default cc) and more flags for it
 """
 import argparse
 import collections
-import glob
 import os
 import shlex
+import shutil
 import subprocess
 import sys
 import tempfile
@@ -26,6 +28,7 @@ import tempfile
 sys.dont_write_bytecode = True  # nothing is left in the repository
 import generate
 import model
+import smallest
 
 HERE = os.path.dirname(os.path.abspath(__file__))
 ROOT = os.path.dirname(os.path.dirname(HERE))
@@ -58,8 +61,8 @@ def build_ours(folder, archive, plain=None):
     return driver
 
 
-def build_rust(folder):
-    done = subprocess.run(['sh', os.path.join(HERE, 'build.sh')], env=dict(os.environ, BUILD_DIR=folder), text=True,
+def build_rust(folder, **more):
+    done = subprocess.run(['sh', os.path.join(HERE, 'build.sh')], env=dict(os.environ, BUILD_DIR=folder, **more), text=True,
                           stdout=subprocess.PIPE, stderr=subprocess.PIPE)
     if done.returncode == 3:
         raise LeftOut(done.stderr.strip())
@@ -75,18 +78,20 @@ def run(command, calls, answers):
         raise Failed('%s: exit status %d' % (' '.join(command), status))
 
 
-def make_calls(path, seed, size):
-    """The smallest inputs, then the generated sequences. Returns how many lines of the file each smallest input has."""
-    smallest = []
+def write_lines(path, *lists):
     with open(path, 'w') as out:
-        for name in sorted(glob.glob(os.path.join(HERE, 'smallest', '*.txt'))):
-            with open(name) as i:
-                text = i.read()
-            out.write(text)
-            smallest.append((os.path.basename(name), text.count('\n')))
-        for line in generate.lines(seed, size):
-            out.write(line + '\n')
-    return smallest
+        for lines in lists:
+            for line in lines:
+                out.write(line + '\n')
+
+
+def make_calls(path, inputs, seed, size):
+    """The smallest inputs, then the generated sequences."""
+    write_lines(path, smallest_lines(inputs), generate.lines(seed, size))
+
+
+def smallest_lines(inputs):
+    return [line for i in inputs for line in i.lines()]
 
 
 class Tally:
@@ -95,14 +100,18 @@ class Tally:
         self.differences = collections.Counter()  # by class
         self.codes, self.kinds = collections.Counter(), collections.Counter()
         self.unexplained = []
-        self.at_line = {}  # the class of a difference by line, for the smallest inputs
+        self.otherwise = []  # smallest inputs that are answered otherwise than they say
 
 
-def compare(calls, ours, rust):
-    """Walks the calls and both answers. The class of a difference comes from the calls alone."""
+def compare(calls, ours, rust, inputs, debug=None):
+    """Walks the calls and both answers. The class of a difference comes from the calls alone. `debug`: the debug build's answers to the inputs."""
     t, m = Tally(), model.Model()
-    with open(calls) as c, open(ours) as o, open(rust) as r:
+    with open(calls) as c, open(ours) as o, open(rust) as r, open(debug or os.devnull) as d:
+        t.otherwise = smallest.check_answers(inputs, {'we': o, 'release': r, 'debug': d} if debug else {'we': o, 'release': r})
+        first = len(smallest_lines(inputs))
         for number, line in enumerate(c, 1):
+            if number <= first:
+                continue
             f = line.split()
             if f[0] == 'S':
                 m.start(f[1] == '1', f[2] == '1', None if f[3] == '-' else int(f[3]))
@@ -126,29 +135,31 @@ def compare(calls, ours, rust):
                     continue
                 if said is not None and a != b and model.as_said(said, a, b):
                     t.differences[said.kind] += 1
-                    t.at_line[number] = said.kind
                 else:
                     t.unexplained.append((number, line.rstrip(), said.kind if said else 'no difference', a, b))
-        if o.readline() or r.readline():
+        if o.readline() or r.readline() or d.readline():
             t.unexplained.append((0, '', '', 'more answers than words', ''))
     return t
 
 
-def check_smallest(smallest, t):
-    """Each smallest input shows the difference by whose number its name begins. 3a shows one in the debug build alone."""
-    wrong, line = [], 0
-    for name, lines in smallest:
-        shown = {t.at_line[n] for n in range(line + 1, line + lines + 1) if n in t.at_line}
-        if shown != (set() if name.startswith('3a-') else {model.CLASSES[int(name[0]) - 1]}):
-            wrong.append('%s shows %s' % (name, ', '.join(sorted(shown)) or 'no difference'))
-        line += lines
-    return wrong
+def check_single(singles, drivers, folder, keep):
+    """The smallest inputs of single functions: what is answered otherwise than they say, and what of them is left out."""
+    asked = os.path.join(keep, 'single.txt')
+    write_lines(asked, smallest_lines(singles))
+    answers = {side: os.path.join(keep, side + '.single.txt') for side in drivers}
+    for side, driver in drivers.items():
+        run([driver], asked, answers[side])
+    with open(answers['release']) as r, open(answers['debug']) as d:
+        wrong = smallest.check_answers(singles, {'release': r, 'debug': d})
+    if not shutil.which('rt'):
+        return wrong, '; our side of %d single functions is left out: no Rattle kit on the PATH' % len(singles)
+    said = smallest.run_ours(singles, folder)
+    return wrong + ([] if said is None else ['single.rt:\n' + said]), ''
 
 
-def report(t, smallest):
-    """Prints the outcome; True when nothing is unexplained."""
-    wrong = check_smallest(smallest, t)
-    wrong += ['no sequence gave code %d' % c for c in sorted(CODES - {int(c) for c in t.codes})]
+def report(t):
+    """Prints the outcome of the sequences; True when nothing is unexplained."""
+    wrong = ['no sequence gave code %d' % c for c in sorted(CODES - {int(c) for c in t.codes})]
     wrong += ['no sequence gave kind %s' % k for k in sorted(KINDS - set(t.kinds))]
     for number, line, said, a, b in t.unexplained[:10]:
         print('line %d: %s\n  by the input: %s\n  ours: %s\n  rust: %s' % (number, line, said, a, b))
@@ -169,21 +180,35 @@ def main():
     p.add_argument('--build')
     p.add_argument('--keep')
     a = p.parse_args()
+    inputs, singles = smallest.read()
+    amiss = smallest.check_form(inputs + singles)
+    if amiss:
+        raise Failed('\n'.join(amiss))
     with tempfile.TemporaryDirectory(prefix='khandzorul-oracle-') as folder:
         work = a.keep or folder
         os.makedirs(work, exist_ok=True)
-        calls, ours, rust = (os.path.join(work, n) for n in ('calls.txt', 'ours.txt', 'rust.txt'))
+        calls, ours, rust, few, debug = (os.path.join(work, n) for n in ('calls.txt', 'ours.txt', 'rust.txt', 'smallest.txt', 'debug.txt'))
         archive = a.lib or os.path.join(folder, 'libkhandzorul.a')
         if not a.plain and not a.lib:
             subprocess.run(['sh', os.path.join(ROOT, 'tools', 'native-lib.sh'), 'khandzorul', archive])
         if not a.plain and not os.path.exists(archive):
             raise Failed('no archive%s' % (' at ' + a.lib if a.lib else ''))
         driver = build_ours(folder, archive, os.path.join(ROOT, 'bench', 'plain.c') if a.plain else None)
-        smallest = make_calls(calls, a.seed, a.size)
+        make_calls(calls, inputs, a.seed, a.size)
         run([driver, '-c'], calls, ours)
         print('oracle: the promises of khandzorul.h hold on these sequences (%s)' % ('bench/plain.c' if a.plain else archive), flush=True)
-        run([build_rust(a.build or os.path.join(folder, 'rust'))], calls, rust)
-        return report(compare(calls, ours, rust), smallest)
+        built = a.build or os.path.join(folder, 'rust')
+        drivers = {'release': build_rust(built, WITH_DEBUG='1'), 'debug': os.path.join(built, 'target', 'debug', 'driver')}
+        run([drivers['release']], calls, rust)
+        write_lines(few, smallest_lines(inputs))
+        run([drivers['debug']], few, debug)
+        t = compare(calls, ours, rust, inputs, debug)
+        otherwise, left = check_single(singles, drivers, folder, work)
+        otherwise += t.otherwise
+        for o in otherwise:
+            print('oracle: ' + o)
+        print('oracle: %d smallest inputs, on our side and on both builds of the Rust, %d answers not as said%s' % (len(inputs + singles), len(otherwise), left))
+        return report(t) and not otherwise
 
 
 if __name__ == '__main__':

@@ -1,14 +1,16 @@
 """model.py: what the input alone says about where the Rust and document 01 part. It never looks at an answer.
 
 It follows 01's seven states, the TDH that entered the three-way state, the lanes of the last IHW, the last internal TDH and whether a
-frame is open, and names for each word the difference that must be there, or none. There are three (docs/DIFFERENCES.md):
+frame is open, and names for each word the difference that must be there, or none. Three come up in the generated sequences, where every
+word has ten bytes and stands in a packet that is not full (docs/DIFFERENCES.md, 1 to 3):
 
     E990             an id that is unknown in the three-way state, which a TDH with no data entered. From here on the two sides are in
                      different states, until the next start.
     BC above 3563    an interval that has such a BC at one of its ends
-    lanes from 32 on a data word whose outer lane is 32 or more, with running checks; the release build tests lane mod 32
+    lanes above 27   a data word with running checks whose outer lane is 32 or more, where the IHW switches on that lane mod 32: the
+                     release build tests lane mod 32
 """
-E990, HIGH_BC, HIGH_LANE = 'E990', 'BC above 3563', 'lanes from 32 on'
+E990, HIGH_BC, HIGH_LANE = 'E990', 'BC above 3563', 'lanes above 27'
 CLASSES = (E990, HIGH_BC, HIGH_LANE)
 LAST_BC = 3563
 

@@ -13,6 +13,7 @@ import tempfile
 
 sys.dont_write_bytecode = True  # nothing is left in the repository
 import compare
+import smallest
 
 WRONG = [
     # the tracker
@@ -83,8 +84,8 @@ WRONG = [
     ('continuation_not_stored', '    t[TDH] = w.low;', '    if (kind != KHZ_TDH_CONTINUATION)\n        t[TDH] = w.low;'),
     ('continuation_not_internal', '    if (internal)\n        t[INTERNAL] = bc;', '    if (internal && kind != KHZ_TDH_CONTINUATION)\n        t[INTERNAL] = bc;'),
     ('wrong_id_not_internal', '    if (internal)\n        t[INTERNAL] = bc;', '    if (internal && w.id == ID_TDH)\n        t[INTERNAL] = bc;'),
-    ('last_bc_3564', 'LAST_BC = 3563', 'LAST_BC = 3564'),
-    ('orbit_of_3563', 'ORBIT_LENGTH = 3564', 'ORBIT_LENGTH = 3563'),
+    ('last_bc_3564', 'LAST_BC = KHZ_LAST_CROSSING,', 'LAST_BC = KHZ_LAST_CROSSING + 1,'),
+    ('orbit_of_3563', 'ORBIT_LENGTH = LAST_BC + 1', 'ORBIT_LENGTH = 3563'),
     ('previous_above_3563_not_asked', 'if (previous > LAST_BC || bc > LAST_BC)', 'if (bc > LAST_BC)'),
     ('current_above_3563_not_asked', 'if (previous > LAST_BC || bc > LAST_BC)', 'if (previous > LAST_BC)'),
     ('1045_swapped', 'say(r, 1045, previous, bc)', 'say(r, 1045, bc, previous)'),
@@ -148,8 +149,15 @@ WRONG = [
     ('payload_made_up_count', 'p.records = b.used;', 'p.records = p.words;'),
     ('payload_quiet_words_not_seen', '                t[SEEN] = 1;\n                if (at', '                if (at'),
     ('payload_quiet_words_not_counted', '                t[COUNT] += (at - from) / KHZ_WORD_BYTES;\n', ''),
-    ('packet_position_not_asked', 'position > (uint64_t)1 << 62 || bc', 'bc'),
+    ('packet_position_not_asked', 'position > KHZ_POSITION_MAX || orbit', 'orbit'),
+    ('packet_orbit_cut', 'orbit >> 32 || ', ''),
+    ('packet_trigger_type_cut', 'trigger_type >> 32 || ', ''),
+    ('packet_page_cut', 'page >> 16 || ', ''),
+    ('packet_stop_cut', 'stop >> 8 || ', ''),
     ('packet_bc_not_asked', 'bc > 4095 || ', ''),
+    ('packet_bc_cut', 'bc > 4095 || ', 'bc % 65536 > 4095 || '),
+    ('flag_of_two_starts', 'running > 1 || ', ''),
+    ('period_cut_to_16_bits', 'period > 65535', 'period % 65536 > 65535'),
     ('packet_format_1', '(format != 0 && format != 2)', 'format > 2'),
     ('start_keeps_what_stood_there', '    memset(t, 0, KHZ_TRACKER_WORDS * sizeof *t);\n', '    memset(t, 0, (KHZ_TRACKER_WORDS - 1) * sizeof *t);\n'),
     ('wrote_behind_the_records', 'r->n * sizeof r->number[0]);\n    b->used', '(r->n < 6 ? r->n + 1 : 6) * sizeof r->number[0]);\n    b->used'),
@@ -177,7 +185,8 @@ def main():
     missed = 0
     with tempfile.TemporaryDirectory(prefix='khandzorul-wrong-') as folder:
         calls, ours, rust, plain = (os.path.join(folder, n) for n in ('calls.txt', 'ours.txt', 'rust.txt', 'plain.c'))
-        smallest = compare.make_calls(calls, a.seed, 'short')
+        inputs, _ = smallest.read()
+        compare.make_calls(calls, inputs, a.seed, 'short')
         compare.run([compare.build_rust(a.build or os.path.join(folder, 'rust'))], calls, rust)
         for entry in [('as it is', '', '', 0)] + wrong:
             changed = edited(text, entry)
@@ -189,8 +198,8 @@ def main():
             with open(calls) as i, open(ours, 'w') as o:
                 promises = subprocess.run([driver, '-c'], stdin=i, stdout=o, stderr=subprocess.DEVNULL).returncode == 0
             try:
-                t = compare.compare(calls, ours, rust)
-                same = not t.unexplained and not compare.check_smallest(smallest, t)
+                t = compare.compare(calls, ours, rust, inputs)
+                same = not t.unexplained and not t.otherwise
             except (ValueError, IndexError):  # answers that are none
                 same = False
             right = promises and same

@@ -4,6 +4,7 @@ use fastpasta::analyze::validators::its::{
     cdp_running::CdpRunningValidator,
     its_payload_fsm_cont::{AmbigiousError, ItsPayloadFsmContinuous},
     lib::ItsPayloadWord as Kind,
+    status_word::{tdh::TdhValidator, util::StatusWordContainer},
 };
 use fastpasta::analyze::validators::lib::preprocess_payload;
 use fastpasta::config::Settings;
@@ -116,7 +117,7 @@ fn packet(f: &[&str]) -> PacketRdh {
 fn word(link: &mut Link, w: &[u8], out: &mut impl Write) -> bool {
     FRAME.with(|c| c.set(Frame::None));
     if catch_unwind(AssertUnwindSafe(|| link.validator.check(w))).is_err() {
-        LAST_PANIC.with(|p| writeln!(out, "PANIC {}", p.borrow()).unwrap());
+        panicked(out);
         return false;
     }
     let (kind, guessed) = kind(link.fsm.advance(w));
@@ -139,6 +140,34 @@ fn word(link: &mut Link, w: &[u8], out: &mut impl Write) -> bool {
 
 thread_local! { static LAST_PANIC: RefCell<String> = const { RefCell::new(String::new()) }; }
 
+fn panicked(out: &mut impl Write) {
+    LAST_PANIC.with(|p| writeln!(out, "PANIC {}", p.borrow()).unwrap());
+}
+
+/// The answer of a single function, or its panic.
+fn single(out: &mut impl Write, answer: impl FnOnce() -> String) {
+    match catch_unwind(AssertUnwindSafe(answer)) {
+        Ok(answer) => writeln!(out, "{answer}").unwrap(),
+        Err(_) => panicked(out),
+    }
+}
+
+/// The codes of messages, or `-`.
+fn codes(messages: Vec<String>) -> String {
+    let codes: Vec<&str> = messages.iter().map(|m| &m[2..m.find(']').unwrap()]).collect();
+    if codes.is_empty() {
+        "-".to_string()
+    } else {
+        codes.join(" ")
+    }
+}
+
+/// The TDHs of a line: the previous one where `stored` is 1, and the one that is checked.
+fn tdhs(f: &[&str]) -> (Option<Tdh>, Tdh) {
+    let tdh = |s| Tdh::from_buf(&hex(s)).unwrap();
+    (if f[1] == "1" { Some(tdh(f[2])) } else { None }, tdh(f[3]))
+}
+
 /// Keeps a panic's message for the answer and off standard error.
 fn catch_messages() {
     std::panic::set_hook(Box::new(|info| {
@@ -153,8 +182,7 @@ fn catch_messages() {
 fn main() {
     catch_messages();
     match std::env::args().nth(1).as_deref() {
-        Some("bench") => return bench(),
-        Some("dump") => return dump(),
+        Some("time") => return time(),
         _ => {}
     }
     let mut out = std::io::BufWriter::with_capacity(1 << 16, std::io::stdout().lock());
@@ -207,14 +235,22 @@ fn main() {
             }
             "ACTIVE" => {
                 let (lane, active): (u8, u32) = (f[1].parse().unwrap(), f[2].parse().unwrap());
-                match catch_unwind(|| is_lane_active(lane, active)) {
-                    Ok(b) => writeln!(out, "{}", b as u8).unwrap(),
-                    Err(_) => writeln!(out, "PANIC").unwrap(),
-                }
+                single(&mut out, || (is_lane_active(lane, active) as u8).to_string())
+            }
+            "CONTINUATION" => {
+                let (previous, tdh) = tdhs(&f);
+                single(&mut out, || codes(TdhValidator::check_continuation(&tdh, previous.as_ref()).err().unwrap_or_default()))
+            }
+            "AFTER_PACKET_DONE" => {
+                let (previous, tdh) = tdhs(&f);
+                let mut stored = StatusWordContainer::new_const();
+                previous.into_iter().chain([tdh]).for_each(|t| stored.replace_tdh(t));
+                // this check gives no message; [E440] is its caller's
+                single(&mut out, || TdhValidator::check_after_tdt_packet_done_true(&stored).map_or("440", |_| "-").to_string())
             }
             "STATUS" => writeln!(out, "{}", ddw0_tdt_lane_status_as_string(&hex(f[1])).trim()).unwrap(),
             "FIELDS" => fields(&hex(f[1]), &mut out),
-            "PAYLOAD" => payload(&if f.len() > 1 { hex(f[1]) } else { vec![] }, &mut out),
+            "PAYLOAD" | "Y" => payload(&if f.len() > 1 { hex(f[1]) } else { vec![] }, &mut out),
             c => panic!("unknown command {c}"),
         }
     }
@@ -235,145 +271,63 @@ fn fields(w: &[u8], out: &mut impl Write) {
 
 /// How the given text cuts a payload: the number of parts and the first part's size.
 fn payload(bytes: &[u8], out: &mut impl Write) {
-    let cut = catch_unwind(|| {
-        preprocess_payload(bytes).map(|parts| {
+    single(out, || match preprocess_payload(bytes) {
+        Ok(parts) => {
             let lengths: Vec<usize> = parts.map(|p| p.len()).collect();
-            (lengths.len(), lengths.first().copied().unwrap_or(0))
-        })
-    });
-    match cut {
-        Ok(Ok((n, size))) => writeln!(out, "{n} {size}").unwrap(),
-        Ok(Err(_)) => writeln!(out, "ERR").unwrap(),
-        Err(_) => writeln!(out, "PANIC").unwrap(),
-    }
-}
-
-/// A packet of the measurement: position, fields, its first word's number, its count of words.
-type Packet = (u64, PacketRdh, usize, usize);
-
-/// The stream of the measurement: bytes, packets, words, damaged words. One orbit after the other: 18 internal triggers at 0, 198, ..
-/// 3366 with 12 data words each, the tenth trigger cut over two pages, then a page with a DDW0.
-fn stream(words: usize, damaged_per_1000: usize) -> (Vec<u8>, Vec<Packet>, usize, usize) {
-    let mut bytes: Vec<u8> = vec![];
-    let mut packets: Vec<Packet> = vec![];
-    let (mut orbit, mut position, mut n) = (7u32, 0u64, 0usize);
-    let tdh = |bc: u16, orbit: u32| {
-        let mut w = [0x10, 0x10, 0, 0, 0, 0, 0, 0, 0, 0xE8u8];
-        w[2..4].copy_from_slice(&bc.to_le_bytes());
-        w[4..8].copy_from_slice(&orbit.to_le_bytes());
-        w
-    };
-    let tdt = |done: u8| [0, 0, 0, 0, 0, 0, 0, 0, done, 0xF0u8];
-    let ihw = [0xFF, 0x01, 0, 0, 0, 0, 0, 0, 0, 0xE0u8];
-    let ddw0 = [0, 0, 0, 0, 0, 0, 0, 0, 0, 0xE4u8];
-    let rdh = |orbit: u32, page: u16, stop: u8| PacketRdh {
-        rdh1: Rdh1 { orbit, bc_reserved0: 0 },
-        rdh2: Rdh2 { trigger_type: 0x10, pages_counter: page, stop_bit: stop },
-        format: 2,
-    };
-    while n < words {
-        let mut first = n;
-        bytes.extend(ihw);
-        n += 1;
-        for k in 0..18u16 {
-            bytes.extend(tdh(k * 198, orbit));
-            n += 1;
-            for d in 0..12u8 {
-                if k == 9 && d == 6 {
-                    bytes.extend(tdt(0));
-                    n += 1;
-                    packets.push((position, rdh(orbit, 0, 0), first, n - first));
-                    position += 8192;
-                    first = n;
-                    let mut continued = tdh(k * 198, orbit);
-                    continued[1] |= 0x40;
-                    bytes.extend(ihw);
-                    bytes.extend(continued);
-                    n += 2;
-                }
-                bytes.extend([k as u8, 1, 2, 3, 4, 5, 6, 7, 8, 0x20 + d % 9]);
-                n += 1;
-            }
-            bytes.extend(tdt(1));
-            n += 1;
+            format!("{} {}", lengths.len(), lengths.first().copied().unwrap_or(0))
         }
-        packets.push((position, rdh(orbit, 1, 0), first, n - first));
-        position += 8192;
-        packets.push((position, rdh(orbit, 2, 1), n, 1));
-        position += 8192;
-        bytes.extend(ddw0);
-        n += 1;
-        orbit = orbit.wrapping_add(1);
+        Err(_) => "ERR".to_string(),
+    })
+}
+
+/// Nanoseconds of processor time of this process so far.
+fn processor_ns() -> f64 {
+    #[repr(C)]
+    struct Time {
+        seconds: i64,
+        nanoseconds: i64,
     }
-    let damaged = if damaged_per_1000 > 0 { damage(&mut bytes, damaged_per_1000) } else { 0 };
-    (bytes, packets, n, damaged)
-}
-
-/// Damage that gives at least one record and keeps the machine in step. Returns how many words got it.
-fn damage(bytes: &mut [u8], per_1000: usize) -> usize {
-    let mut random = 0x9E3779B97F4A7C15u64;
-    let mut damaged = 0;
-    for w in bytes.chunks_exact_mut(10) {
-        random ^= random << 13;
-        random ^= random >> 7;
-        random ^= random << 17;
-        if (random >> 20) % 1000 < per_1000 as u64 {
-            match w[9] {
-                0xE8 => w[3] |= 0x10,               // a reserved bit: 40
-                0xF0 | 0xE0 | 0xE4 => w[7] |= 0x01, // a reserved bit: 50, 30, 60
-                _ => w[9] = 0x2A,                   // no data id: 991, 70, 1072
-            }
-            damaged += 1;
-        }
+    extern "C" {
+        fn clock_gettime(clock: i32, time: *mut Time) -> i32;
     }
-    damaged
+    const CLOCK_PROCESS_CPUTIME_ID: i32 = 2; // Linux
+    let mut t = Time { seconds: 0, nanoseconds: 0 };
+    assert_eq!(unsafe { clock_gettime(CLOCK_PROCESS_CPUTIME_ID, &mut t) }, 0);
+    1e9 * t.seconds as f64 + t.nanoseconds as f64
 }
 
-fn numbers() -> Vec<usize> {
-    std::env::args().skip(2).map(|s| s.parse().unwrap()).collect()
-}
-
-/// driver dump WORDS DAMAGED_PER_1000: the stream as calls.
-fn dump() {
-    let a = numbers();
-    let (bytes, packets, _, _) = stream(a[0], a[1]);
-    let mut out = std::io::BufWriter::new(std::io::stdout().lock());
-    writeln!(out, "S 1 1 198").unwrap();
-    for (position, r, first, words) in packets {
-        write!(out, "P {position} {} {} ", r.rdh1.orbit, r.rdh2.trigger_type).unwrap();
-        writeln!(out, "{} {} {} {}", r.rdh1.bc_reserved0, r.rdh2.pages_counter, r.rdh2.stop_bit, r.format).unwrap();
-        for w in bytes[10 * first..10 * (first + words)].chunks_exact(10) {
-            write!(out, "W ").unwrap();
-            for b in w {
-                write!(out, "{b:02x}").unwrap()
-            }
-            writeln!(out).unwrap();
-        }
-    }
-}
-
-/// driver bench WORDS DAMAGED_PER_1000 RUNS: ns a word. The stream is made before; timed are set_current_rdh and check.
-fn bench() {
-    let a = numbers();
-    let (per_1000, runs) = (a[1], a[2]);
+/// driver time FILE PASSES: ns a word over the calls of a file, the fastest pass. The file is read before; timed are set_current_rdh and check.
+fn time() {
+    let file = std::fs::read_to_string(std::env::args().nth(2).unwrap()).unwrap();
+    let passes: usize = std::env::args().nth(3).unwrap().parse().unwrap();
     let settings: &'static Settings = Box::leak(Box::new(Settings { running: true, frames: true, period: Some(198) }));
-    let (bytes, packets, n, damaged) = stream(a[0], per_1000);
-    let mut ns = vec![];
-    let mut records = 0;
-    for _ in 0..runs {
+    let (mut bytes, mut packets) = (vec![], vec![]);
+    for line in file.lines() {
+        let f: Vec<&str> = line.split_ascii_whitespace().collect();
+        match f[0] {
+            "S" => assert_eq!(f[1..], ["1", "1", "198"]),
+            "P" => packets.push((f[1].parse::<u64>().unwrap(), packet(&f), bytes.len(), bytes.len())),
+            "W" => {
+                bytes.extend(hex(f[1]));
+                packets.last_mut().unwrap().3 = bytes.len();
+            }
+            c => panic!("unknown command {c}"),
+        }
+    }
+    let words = bytes.len() / 10;
+    let (mut fastest, mut records) = (f64::INFINITY, 0);
+    for _ in 0..passes {
         let (sender, count) = flume::Sender::counter();
         let mut validator = Validator::new(std::hint::black_box(settings), sender);
-        let start = std::time::Instant::now();
-        for (position, rdh, first, words) in &packets {
+        let start = processor_ns();
+        for (position, rdh, first, end) in &packets {
             validator.set_current_rdh(rdh, *position);
-            for w in bytes[10 * first..10 * (first + words)].chunks_exact(10) {
+            for w in bytes[*first..*end].chunks_exact(10) {
                 validator.check(std::hint::black_box(w));
             }
         }
-        ns.push(start.elapsed().as_nanos() as f64 / n as f64);
+        fastest = fastest.min((processor_ns() - start) / words as f64);
         records = count.get();
     }
-    ns.sort_by(|a, b| a.partial_cmp(b).unwrap());
-    print!("words {n} packets {} damaged {damaged} records {records} runs {runs} ", packets.len());
-    println!("ns/word min {:.2} median {:.2} max {:.2}", ns[0], ns[ns.len() / 2], ns[ns.len() - 1]);
+    println!("words {words} records {records} fastest {fastest:.3}");
 }
