@@ -16,21 +16,36 @@ def files(*ends):
                 yield os.path.join(d, n)
 
 
+def cited(path):
+    """The files of specs/ that a file's `use` lines name."""
+    with open(path, encoding='utf8') as f:
+        return {f'{c}/specs/{m}.antt' for c, m in re.findall(r'use Rattle·(\w+)(?:·specs)?\.specs\.(\w+)', f.read())}
+
+
 def specs():
-    """What is wrong with the list of definitions in docs/TRUST.md."""
+    """What is wrong with the two tables of definitions in docs/TRUST.md: those to believe, and those that serve the code alone."""
     with open(os.path.join(TOP, 'docs', 'TRUST.md'), encoding='utf8') as f:
         text = f.read()
-    listed = {p: int(n) for p, n in re.findall(r'^\| `([^`]*\.antt)` \| (\d+) \|', text, re.M)}
     there = {}
     for p in files('.antt'):
         if os.path.basename(os.path.dirname(p)) == 'specs' and os.path.basename(p) != 'Lib.antt':
             with open(p, encoding='utf8') as f:
                 there[os.path.relpath(p, CRATES)] = len(f.read().splitlines())
-    wrong = [f'{p} has {n} lines' for p, n in sorted(there.items()) if listed.get(p) != n]
+    tables = re.findall(r'((?:^\| `[^`]*\.antt` \| \d+ \|.*\n)+)\| in all \| (\d+) \|', text, re.M)
+    if len(tables) != 2:
+        return ['there are not two tables of definitions']
+    wrong, listed = [], {}
+    for rows, total in tables:
+        table = {p: int(n) for p, n in re.findall(r'^\| `([^`]*)` \| (\d+) \|', rows, re.M)}
+        listed.update(table)
+        if int(total) != sum(there.get(p, 0) for p in table):
+            wrong.append(f'those of a table have {sum(there.get(p, 0) for p in table)} lines')
+    wrong += [f'{p} has {n} lines' for p, n in sorted(there.items()) if listed.get(p) != n]
     wrong += [f'{p} is not there' for p in sorted(listed) if p not in there]
-    total = re.search(r'^\| in all \| (\d+) \|', text, re.M)
-    if not total or int(total.group(1)) != sum(there.values()):
-        wrong.append(f'all have {sum(there.values())} lines')
+    serving = set(re.findall(r'^\| `([^`]*)`', tables[1][0], re.M))
+    readers = [os.path.join(CRATES, p) for p in listed if p in there and p not in serving]
+    for p in readers + [os.path.join(CRATES, 'khandzorul', 'src', 'lib.rt')]:
+        wrong += [f'{os.path.relpath(p, CRATES)} cites {d}, which is said to serve the code alone' for d in sorted(cited(p) & serving)]
     return wrong
 
 
