@@ -154,7 +154,7 @@ def check_single(singles, drivers, folder, keep):
     if not shutil.which('rt'):
         return wrong, '; our side of %d single functions is left out: no Rattle kit on the PATH' % len(singles)
     said = smallest.run_ours(singles, folder)
-    return wrong + ([] if said is None else ['single.rt:\n' + said]), ''
+    return wrong + ([] if said is None else ['single.rattle:\n' + said]), ''
 
 
 def report(t):

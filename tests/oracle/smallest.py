@@ -23,7 +23,7 @@ HERE = os.path.dirname(os.path.abspath(__file__))
 ROOT = os.path.dirname(os.path.dirname(HERE))
 DOCUMENT = os.path.join(ROOT, 'docs', 'DIFFERENCES.md')
 FIELDS = {'S': 4, 'P': 8, 'W': 2, 'R': 1, 'Y': 2, 'ACTIVE': 3, 'CONTINUATION': 4, 'AFTER_PACKET_DONE': 4}
-QUESTIONS = {'ACTIVE': 1, 'CONTINUATION': 2, 'AFTER_PACKET_DONE': 3}  # single functions, by their numbers in single.rt
+QUESTIONS = {'ACTIVE': 1, 'CONTINUATION': 2, 'AFTER_PACKET_DONE': 3}  # single functions, by their numbers in single.rattle
 SIDES = {'we': ['we'], 'release': ['release'], 'debug': ['debug'], 'rust': ['release', 'debug']}
 EVERY = ['we', 'release', 'debug']
 
@@ -130,7 +130,7 @@ def check_form(inputs):
 
 
 def question(call):
-    """The bytes that single.rt is asked with."""
+    """The bytes that single.rattle is asked with."""
     f = call.fields
     if call.name == 'ACTIVE':
         return bytes([1, int(f[1])]) + int(f[2]).to_bytes(20, 'little')
@@ -138,7 +138,7 @@ def question(call):
 
 
 def run_ours(singles, folder):
-    """Our side of single functions: single.rt, over the crates as they are, interpreted and compiled. None: as said; else what is wrong."""
+    """Our side of single functions: single.rattle, over the crates as they are, interpreted and compiled. None: as said; else what is wrong."""
     work = os.path.join(folder, 'single')
     os.makedirs(os.path.join(work, 'crates', 'single', 'src'))
     for name in os.listdir(os.path.join(ROOT, 'crates')):
@@ -146,7 +146,7 @@ def run_ours(singles, folder):
     with open(os.path.join(ROOT, 'crates.txt')) as f, open(os.path.join(work, 'crates.txt'), 'w') as out:
         out.write(f.read() + 'single: words records validators tdh_validator io\n')
     program = os.path.join(work, 'crates', 'single')
-    shutil.copy(os.path.join(HERE, 'single.rt'), os.path.join(program, 'src', 'main.rt'))
+    shutil.copy(os.path.join(HERE, 'single.rattle'), os.path.join(program, 'src', 'main.rt'))
     with open(os.path.join(program, 'stdin'), 'wb') as f:
         f.write(b''.join(question(call) for i in singles for call in i.calls))
     with open(os.path.join(program, 'stdout'), 'w') as f:
