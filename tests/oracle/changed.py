@@ -3,8 +3,9 @@
 
     changed.py [--seed N] [--most N] COMMAND..        COMMAND: how to run vectors, in a folder with its data
 
-Each kind of byte that an answer has is changed in each file, at words taken by chance; so are the number of a call, a file's length, and
-a file that is not there. Noticed means that the output is another than crates/vectors/stdout.
+Each kind of byte that an answer has is changed in each file, at words taken by chance, and so is the number of a call; each file is cut, emptied
+and taken away, and at last all of them. Noticed means that the output is another than crates/vectors/stdout, and that it names a file without
+words. First the sequences and words of the data are counted here and stdout is held to them: a run over nothing can't be what is expected.
 """
 import argparse
 import os
@@ -50,6 +51,19 @@ def places(data):
     return out
 
 
+def expected(files):
+    """What vectors must write of these files, by the calls in them; all of them must have words."""
+    out, sums = '', [0, 0]
+    for name, data in files:
+        calls = [data[at] for at in places(data)['call']]
+        counts = [calls.count(0), calls.count(3)]
+        if not all(counts):
+            raise compare.Failed(name + ' has no sequence or no word')
+        sums = [a + b for a, b in zip(sums, counts)]
+        out += '%s: %d sequences, %d words, 0 differ\n' % (name, *counts)
+    return out + 'all: %d sequences, %d words, 0 differ\n' % tuple(sums)
+
+
 def main():
     p = argparse.ArgumentParser(description='Changed bytes that vectors must notice.')
     p.add_argument('--seed', type=int, default=1)
@@ -57,39 +71,55 @@ def main():
     p.add_argument('command', nargs='+')
     a = p.parse_args()
     c, tried, missed = generate.Chance(a.seed), 0, []
-    with open(os.path.join(VECTORS, 'stdout'), 'rb') as f:
+    with open(os.path.join(VECTORS, 'stdout'), encoding='ascii') as f:
         right = f.read()
     with tempfile.TemporaryDirectory(prefix='khandzorul-changed-') as folder:
         shutil.copytree(os.path.join(VECTORS, 'data'), folder, dirs_exist_ok=True)
 
         def says():
-            return subprocess.run(a.command, cwd=folder, stdout=subprocess.PIPE).stdout
+            done = subprocess.run(a.command, cwd=folder, stdout=subprocess.PIPE, encoding='ascii')
+            if done.returncode != 0:
+                raise compare.Failed('vectors ended with %d' % done.returncode)
+            return done.stdout
 
-        def expect_other(what):
+        def read(name):
+            with open(os.path.join(folder, name), 'rb') as f:
+                return f.read()
+
+        def write(name, data):
+            with open(os.path.join(folder, name), 'wb') as f:
+                f.write(data)
+
+        def expect(what, *lines):
+            """Another output than the right one, with these lines in it."""
             nonlocal tried
             tried += 1
-            if says() == right:
+            said = says()
+            if said == right or not set(lines) <= set(said.splitlines()):
                 missed.append(what)
 
+        names = [name for name, _ in record.FILES]
+        if expected([(name, read(name)) for name in names]) != right:
+            raise compare.Failed('the stdout of vectors is not what is in its data')
         if says() != right:
             raise compare.Failed('vectors does not write what its stdout has, with nothing changed')
-        for name, _ in record.FILES:
-            path = os.path.join(folder, name)
-            with open(path, 'rb') as f:
-                data = f.read()
+        for name in names:
+            data = read(name)
             for place, where in places(data).items():
                 for _ in range(a.most):
                     at, by = c.pick(where), 1 + c.below(255)
-                    with open(path, 'wb') as f:
-                        f.write(data[:at] + bytes([data[at] ^ by]) + data[at + 1:])
-                    expect_other('%s: byte %d, %s' % (name, at, place))
-            with open(path, 'wb') as f:
-                f.write(data[:-1])
-            expect_other(name + ': cut by one byte')
-            os.remove(path)
-            expect_other(name + ': not there')
-            with open(path, 'wb') as f:
-                f.write(data)
+                    write(name, data[:at] + bytes([data[at] ^ by]) + data[at + 1:])
+                    expect('%s: byte %d, %s' % (name, at, place))
+            write(name, data[:-1])
+            expect(name + ': cut by one byte')
+            write(name, b'')
+            expect(name + ': empty', name + ': nothing was compared', 'files without a word to compare: 1 of 7')
+            os.remove(os.path.join(folder, name))
+            expect(name + ': not there', name + ': missing', 'files without a word to compare: 1 of 7')
+            write(name, data)
+        for name in names:
+            os.remove(os.path.join(folder, name))
+        expect('no file there', 'all: nothing was compared', 'files without a word to compare: 7 of 7')
     for what in missed:
         print('changed: not noticed: ' + what)
     print('changed: %d changes of the recorded answers, %d not noticed' % (tried, len(missed)))

@@ -304,20 +304,43 @@ fn replay(fd: i32) -> Tally {
     y
 }
 
-fn show(name: &[u8], sequences: u64, words: u64, differ: u64) {
-    io::write_all(1, name);
-    io::write_all(1, b": ");
-    io::print_decimal(1, sequences);
-    io::write_all(1, b" sequences, ");
-    io::print_decimal(1, words);
-    io::write_all(1, b" words, ");
-    io::print_decimal(1, differ);
-    io::write_all(1, b" differ\n");
+fn text(bytes: &[u8]) {
+    io::write_all(1, bytes);
 }
 
-// A file by its name. One that can't be opened is an empty one.
+// What was compared, if anything was: a file without a word is no success.
+fn show(name: &[u8], sequences: u64, words: u64, differ: u64) {
+    text(name);
+    if words == 0 {
+        text(b": nothing was compared\n");
+        return;
+    }
+    text(b": ");
+    io::print_decimal(1, sequences);
+    text(b" sequences, ");
+    io::print_decimal(1, words);
+    text(b" words, ");
+    io::print_decimal(1, differ);
+    text(b" differ\n");
+}
+
+// A file that can't be opened.
+fn missing(name: &[u8]) -> Tally {
+    text(name);
+    text(b": missing\n");
+    Tally {
+        sequences: 0,
+        words: 0,
+        differ: 0,
+    }
+}
+
+// A file by its name.
 fn file(name: &[u8]) -> Tally {
     let fd = os::open_read(name);
+    if fd < 0 {
+        return missing(name);
+    }
     let y = replay(fd);
     libc::close(fd);
     show(name, y.sequences as u64, y.words as u64, y.differ as u64);
@@ -326,6 +349,15 @@ fn file(name: &[u8]) -> Tally {
 
 fn sum(a: u32, b: u32, c: u32, d: u32, e: u32, f: u32, g: u32) -> u64 {
     a as u64 + b as u64 + c as u64 + d as u64 + e as u64 + f as u64 + g as u64
+}
+
+// A last line of its own where not every file had a word, so that the sums are not taken for all.
+fn show_left_out(files: u64) {
+    if 0 < files {
+        text(b"files without a word to compare: ");
+        io::print_decimal(1, files);
+        text(b" of 7\n");
+    }
 }
 
 fn main() {
@@ -366,4 +398,13 @@ fn main() {
             g.differ,
         ),
     );
+    show_left_out(sum(
+        one(a.words == 0),
+        one(b.words == 0),
+        one(c.words == 0),
+        one(d.words == 0),
+        one(e.words == 0),
+        one(f.words == 0),
+        one(g.words == 0),
+    ));
 }
