@@ -1,8 +1,10 @@
-// Prints what each word on standard input is taken as, and its fields: ten bytes a word, from the start state on.
+// Prints what each word on standard input is taken as, and its fields: ten bytes a word, from the start state on. A line says what of the
+// input is not shown. A bench file is not shown at all: its header and packets are no words.
+ghost use Prim.Native.Nat.{_+_, _<_, _≤_};
+ghost use lib.ListN.{length};
 use payload_fsm::Advanced;
 use payload_fsm::ItsPayloadFsmContinuous;
 use payload_fsm::ItsPayloadWord;
-use words::FromBuf;
 use words::Word;
 use words::cdw::Cdw;
 use words::ddw::Ddw0;
@@ -10,8 +12,8 @@ use words::ihw::Ihw;
 use words::tdh::Tdh;
 use words::tdt::Tdt;
 
-// The most words that are shown: a packet's.
-const MOST: u64 = 4096;
+// The bytes of the most words that are shown: a packet's 4,096.
+const MOST_BYTES: usize = 40960;
 
 fn text(bytes: &[u8]) {
     io::write_all(1, bytes);
@@ -90,6 +92,39 @@ fn show_data_word(word: Word) {
     }
 }
 
+// A digit of base 16.
+fn digit(n: u8) -> u8
+    requires { ⌜ n < 16 ⌝ }
+{
+    if n < 10 { 48 + n } else { 55 + n }
+}
+
+// An id as docs/CODES.md writes it.
+fn hex(id: u8) {
+    let digits = [digit(id / 16), digit(id % 16)];
+    text(b"0x");
+    text(&digits);
+}
+
+fn show_other_id(id: u8, own: u8) {
+    if id != own {
+        text(b", by its place: its id is ");
+        hex(id);
+        text(b", not ");
+        hex(own);
+    }
+}
+
+// An IHW and a TDH can be taken as such by their place, whatever the id.
+fn show_place(kind: ItsPayloadWord, id: u8) {
+    if kind.is_ihw() {
+        show_other_id(id, Ihw::ID);
+    }
+    if kind.is_tdh() {
+        show_other_id(id, Tdh::ID);
+    }
+}
+
 fn show_fields(kind: ItsPayloadWord, word: Word) {
     match kind {
         ItsPayloadWord::Ihw => show_ihw(b" IHW", word),
@@ -111,22 +146,112 @@ fn show(a: Advanced, word: Word) {
     text(b" ");
     io::print_decimal(1, word.id() as u64);
     show_fields(kind, word);
+    show_place(kind, word.id());
     if a.guessed {
         text(b", a guess");
     }
     text(b"\n");
 }
 
-fn main() {
+fn word_at(bytes: &[u8], at: usize) -> Word
+    requires { ⌜ at + 10 ≤ length (now bytes) ⌝ }
+{
+    Word::load([
+        bytes[at],
+        bytes[at + 1],
+        bytes[at + 2],
+        bytes[at + 3],
+        bytes[at + 4],
+        bytes[at + 5],
+        bytes[at + 6],
+        bytes[at + 7],
+        bytes[at + 8],
+        bytes[at + 9],
+    ])
+}
+
+// All whole words.
+fn show_words(bytes: &[u8]) {
     let mut fsm = ItsPayloadFsmContinuous::new();
-    for n in 0..MOST {
-        let mut bytes = [0u8; 10];
-        let got = io::read_full(0, &mut bytes);
-        let FromBuf::Is(word) = Word::from_buf(&bytes[..got]) else {
-            return;
-        };
+    for i in 0..bytes.len() / Word::SIZE {
+        let word = word_at(bytes, Word::SIZE * i);
         let a = fsm.advance(word);
         show(a, word);
         fsm = a.fsm;
     }
+}
+
+// What is not shown of so many bytes.
+fn show_rest(got: usize) {
+    if got == 0 {
+        text(b"no words\n");
+    }
+    if MOST_BYTES < got {
+        text(b"what follows these 4096 words is not shown\n");
+    } else if got % Word::SIZE != 0 {
+        text(b"bytes left over at the end: ");
+        io::print_decimal(1, (got % Word::SIZE) as u64);
+        text(b"\n");
+    }
+}
+
+fn wide(b: u8) -> u64
+    ensures { λ r. ⌜ r < 256 ⌝ }
+{
+    b as u64
+}
+
+// The number of four bytes at a place.
+fn number(bytes: &[u8], at: usize) -> u64
+    requires { ⌜ at + 4 ≤ length (now bytes) ⌝ }
+    ensures { λ r. ⌜ r < 4294967296 ⌝ }
+{
+    wide(bytes[at])
+        + 0x100 * wide(bytes[at + 1])
+        + 0x1_0000 * wide(bytes[at + 2])
+        + 0x100_0000 * wide(bytes[at + 3])
+}
+
+// Where the words begin, if the input begins with the header of a bench file; else 0.
+// 01, "Bench file": "packet offset 16, word offset 16 + 24 times packets".
+fn words_of_file(bytes: &[u8]) -> u64
+    ensures { λ r. ⌜ r < 4294967296 ⌝ }
+{
+    if bytes.len() < 16 {
+        return 0;
+    }
+    let packets = number(bytes, 0);
+    let packets_at = number(bytes, 8);
+    let words_at = number(bytes, 12);
+    if (packets_at == 16) & (words_at == 16 + 24 * packets) {
+        words_at
+    } else {
+        0
+    }
+}
+
+// A bench file, whose words begin at a place.
+fn show_file(place: u64)
+    requires { ⌜ place < 4294967296 ⌝ }
+{
+    text(b"this begins like a bench file, which ./check takes; for its words alone: tail -c +");
+    io::print_decimal(1, place + 1);
+    text(b" FILE | ./run fields\n");
+}
+
+fn show_input(bytes: &[u8]) {
+    let place = words_of_file(bytes);
+    if place != 0 {
+        show_file(place);
+        return;
+    }
+    show_words(bytes);
+    show_rest(bytes.len());
+}
+
+fn main() {
+    // One byte more than is shown, so that more is seen to be more.
+    let mut bytes = [0u8; 40961];
+    let got = io::read_full(0, &mut bytes);
+    show_input(&bytes[..got]);
 }
