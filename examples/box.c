@@ -3,12 +3,16 @@
  *     cc -std=c99 -I include examples/box.c libkhandzorul.a -o box && ./box FILE
  *
  * In a box the packets come from the link; here they come from a bench file (document 01, "Bench file"), and the output is what benchcheck
- * prints of it. Exit status: 0 a bench file, 1 a refused one, 2 no file.
+ * prints of it. The exit status is that of ./check: 0 checked, no records. 1 checked, with records. 2 not checked: refused, not to be read, or
+ * not to be printed.
  */
 #include "khandzorul.h"
 
 #include <inttypes.h>
+#include <stdbool.h>
 #include <stdio.h>
+
+enum { CLEAN = 0, RECORDS = 1, NOT_CHECKED = 2 };
 
 enum { PACKETS_AT = 16, PACKET_BYTES = 24 };
 
@@ -59,28 +63,48 @@ static uint64_t take_packets(const uint8_t *file, uint64_t *given)
     return refusal;
 }
 
+/* Reads a file up to the buffer's end. Not true: it can't be opened or read, and errno says why. */
+static bool read_file(const char *name, uint8_t *buffer, size_t most, size_t *bytes)
+{
+    FILE *f = fopen(name, "rb");
+    bool read;
+
+    if (!f)
+        return false;
+    *bytes = fread(buffer, 1, most, f);
+    read = !ferror(f);
+    fclose(f);
+    return read;
+}
+
 int main(int argc, char **argv)
 {
-    static uint8_t file[KHZ_FILE_BYTES + 1];
+    static uint8_t file[KHZ_FILE_BYTES + 1];         /* one byte more, so that a longer file is seen to be longer */
     uint64_t refusal, given = 0;
     size_t bytes;
-    FILE *f;
 
-    if (argc != 2 || !(f = fopen(argv[1], "rb"))) {
+    if (argc != 2) {
         fprintf(stderr, "usage: box FILE\n");
-        return 2;
+        return NOT_CHECKED;
     }
-    bytes = fread(file, 1, sizeof file, f);
-    fclose(f);
+    if (!read_file(argv[1], file, sizeof file, &bytes)) {
+        perror(argv[1]);
+        return NOT_CHECKED;
+    }
     refusal = khz_check_file(file, bytes);
     if (refusal == KHZ_DONE) {
         puts("pos code first second");
         refusal = take_packets(file, &given);
     }
-    if (refusal != KHZ_DONE) {
+    if (refusal == KHZ_DONE)
+        printf("records %" PRIu64 "\n", given);
+    else
         printf("refused %" PRIu64 "\n", refusal);
-        return 1;
+    if (fflush(stdout) != 0 || ferror(stdout)) {
+        perror("standard output");
+        return NOT_CHECKED;
     }
-    printf("records %" PRIu64 "\n", given);
-    return 0;
+    if (refusal != KHZ_DONE)
+        return NOT_CHECKED;
+    return given == 0 ? CLEAN : RECORDS;
 }

@@ -64,17 +64,42 @@ by_example() {
     $cc -std=c11 $strict -I include tests/boundary.c "$archive" -o "$work/boundary"
     "$work/boundary"
 }
-run_examples() { # PROGRAM: what it prints of each example
-    for f in examples/*.hex; do
-        sh tools/hex.sh <"$f" >"$work/file"
-        "$1" "$work/file" >"$work/printed"
-        diff "$work/printed" "${f%.hex}.out"
-    done
-    # a refused file
-    echo no bench file >"$work/file"
+ends() { # STATUS OUTPUT-FILE PROGRAM [ARGUMENT..]: how it ends and what it prints; where it prints nothing, that it says why
+    must=$1 printed=$2
+    shift 2
     ended=0
-    "$1" "$work/file" >"$work/printed" || ended=$?
-    [ "$ended" -eq 1 ] && [ "$(cat "$work/printed")" = 'refused 6' ]
+    "$@" >"$work/printed" 2>"$work/why" || ended=$?
+    [ "$ended" -eq "$must" ] || { echo "$*: exit status $ended, not $must"; exit 1; }
+    diff "$work/printed" "$printed"
+    [ -s "$work/printed" ] || [ -s "$work/why" ] || { echo "$*: does not say why it prints nothing"; exit 1; }
+}
+example() { # PROGRAM STATUS NAME
+    sh tools/hex.sh <"examples/$3.hex" >"$work/file"
+    ends "$2" "examples/$3.out" "$1" "$work/file"
+}
+run_examples() { # PROGRAM
+    example "$1" 0 clean
+    example "$1" 1 whole_case
+    example "$1" 1 two_pages
+    echo 'refused 6' >"$work/refused6"
+    echo 'no bench file' >"$work/file"
+    ends 2 "$work/refused6" "$1" "$work/file"
+    ends 2 "$work/refused6" "$1" /dev/null
+    # a byte too many behind a bench file of 60,000: six packets, 5,984 words of zeros
+    printf '06000000 60170000 10000000 A0000000' >"$work/header"
+    for count in E803 E803 E803 E803 E803 D803; do printf '%042d 02 %s' 0 "$count" >>"$work/header"; done
+    (sh tools/hex.sh <"$work/header"; head -c 59841 /dev/zero) >"$work/file"
+    ends 2 "$work/refused6" "$1" "$work/file"
+    ends 2 /dev/null "$1" "$work/nowhere"
+    ends 2 /dev/null "$1" "$work"
+    ends 2 /dev/null "$1"
+    ends 2 /dev/null "$1" "$work/file" "$work/file"
+    [ -w /dev/full ] || { echo 'without a full disk, since there is no /dev/full'; return 0; }
+    ended=0
+    sh tools/hex.sh <examples/clean.hex >"$work/file"
+    "$1" "$work/file" >/dev/full 2>"$work/why" || ended=$?
+    [ "$ended" -eq 2 ] || { echo "$1: a full disk: exit status $ended, not 2"; exit 1; }
+    [ -s "$work/why" ] || { echo "$1: does not say that the disk is full"; exit 1; }
 }
 example_c() {
     $cc -std=c99 $strict -I include examples/box.c "$archive" -o "$work/box_c"
