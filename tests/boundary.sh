@@ -6,29 +6,44 @@
 #   --unproved   the library without its proof, which is there in seconds (tools/native-lib.sh); for the gate, which proves it elsewhere
 #   --lib        an archive that is there already
 #   RUST_SRC, CC as for oracle/compare.py; CXX the C++ compiler, default c++
-#   BUILD_DIR    where the Rust is built and left; default: a temporary folder
+#   BUILD_DIR    where the Rust is built and left, outside the repository; default: a temporary folder
 #
-# A line for each part: done, left out with the reason, or FAILED, with what the part said above it. What is left out was not tested.
+# A line for each part: done, left out with the reason, or FAILED, with what the part said above it. What is left out was not tested. The last line
+# counts them, however the run ends: 'boundary: N parts done, N left out, N failed'.
 # Exit status: 1 if a part failed, 3 if all were left out. Everything is built in a temporary folder.
 set -eu
-cd "$(dirname "$0")/.."
-. tools/kit.sh
-how= archive=
-case ${1:-} in
---unproved) how=--unproved ;;
---lib) archive=${2:?--lib ARCHIVE} ;;
-'') ;;
-*) echo "usage: tests/boundary.sh [--unproved | --lib ARCHIVE]" >&2; exit 2 ;;
+usage() { echo "usage: tests/boundary.sh [--unproved | --lib ARCHIVE]" >&2; exit 2; }
+absolute() { case $1 in /*) echo "$1" ;; *) echo "$PWD/$1" ;; esac; } # by the caller's folder
+how='' archive=''
+case $#${1:-} in
+0) ;;
+1--unproved) how=--unproved ;;
+2--lib) archive=$(absolute "$2") ;;
+*) usage ;;
 esac
-work=$(mktemp -d "${TMPDIR:-/tmp}/khandzorul-boundary.XXXXXX")
-trap 'rm -rf "$work"' EXIT
-trap 'exit 1' HUP INT TERM
-cc=${CC:-cc} cxx=${CXX:-c++}
-strict='-O2 -Wall -Wextra -Wpedantic -Werror'
-done=0 out=0 failed=0
+rust=${BUILD_DIR:+$(absolute "$BUILD_DIR")}
+cd "$(dirname "$0")/.."
+kit='' tools='' # kit_find sets them
+# shellcheck source=tools/kit.sh disable=SC1091 # a run of shellcheck without -x reads one file alone
+. tools/kit.sh
+cc=${CC:-cc} cxx=${CXX:-c++} # with flags, where they have any
+done=0 out=0 failed=0 work=''
 
-has() { command -v "$1" >/dev/null 2>&1; }
+has() { command -v "${1%% *}" >/dev/null 2>&1; }
 left_out() { out=$((out + 1)); echo "boundary: left out: $1 (${2%)})"; }
+fail() { failed=$((failed + 1)); echo "boundary: FAILED: $1"; }
+end() { # the last line, at every end
+    status=$?
+    [ -z "$work" ] || rm -rf "$work"
+    case $status:$failed in 0:* | 3:* | *:[1-9]*) ;; *) fail "the run ended before its time, with $status" ;; esac
+    echo "boundary: $done parts done, $out left out, $failed failed"
+    exit "$status"
+}
+trap end EXIT
+trap 'exit 1' HUP INT TERM
+work=$(mktemp -d "${TMPDIR:-/tmp}/khandzorul-boundary.XXXXXX")
+rust=${rust:-$work/rust}
+
 part() { # WHAT COMMAND..: runs a part; what it says is shown where it fails, else its last line
     what=$1
     shift
@@ -38,9 +53,8 @@ part() { # WHAT COMMAND..: runs a part; what it says is shown where it fails, el
     set -e
     last=$(tail -n 1 "$work/said")
     if [ "$status" -ne 0 ]; then
-        failed=$((failed + 1))
         cat "$work/said"
-        echo "boundary: FAILED: $what"
+        fail "$what"
     else
         case $last in
         *': left out ('*) left_out "$what" "${last#*: left out (}" ;;
@@ -49,19 +63,32 @@ part() { # WHAT COMMAND..: runs a part; what it says is shown where it fails, el
     fi
 }
 
+strict_c() { $cc -O2 -Wall -Wextra -Wpedantic -Werror -I include "$@"; }
+strict_cxx() { $cxx -O2 -Wall -Wextra -Wpedantic -Werror -I include "$@"; }
 header_c() {
     echo '#include "khandzorul.h"' >"$work/header.c"
-    for std in c99 c11; do $cc -std=$std $strict -I include -c "$work/header.c" -o "$work/header.o"; done
+    for std in c99 c11; do strict_c -std=$std -c "$work/header.c" -o "$work/header.o"; done
+    # an answer that is not looked at
+    $cc -dM -E -x c /dev/null | grep -q __GNUC__ || return 0
+    for call in 'khz_start(0, 0, 0, 0, 0, 0)' 'khz_packet(0, 0, 0, 0, 0, 0, 0, 0, 0)' 'khz_word(0, 0, 0, 0, 0, 0)' 'khz_payload(0, 0, 0, 0, 0, 0)' \
+        'khz_reset(0, 0)' 'khz_check_file(0, 0)'; do
+        printf '#include "khandzorul.h"\nint main(void) { %s; return 0; }\n' "$call" >"$work/header.c"
+        if strict_c -std=c99 -c "$work/header.c" -o "$work/header.o" 2>"$work/warned" || ! grep -q unused-result "$work/warned"; then
+            cat "$work/warned"
+            echo "no warning of an answer that is not looked at: $call"
+            exit 1
+        fi
+    done
 }
 header_cxx() {
     # the struct's layout and the names are C's
     printf '%s\n' '#include "khandzorul.h"' 'static_assert(sizeof(khz_word_answer) == 64 && sizeof(khz_payload_answer) == 24, "");' \
         'int main() { return static_cast<int>(khz_reset(nullptr, 0)) == KHZ_NO_TRACKER ? 0 : 1; }' >"$work/header.cc"
-    $cxx -std=c++11 $strict -I include "$work/header.cc" "$archive" -o "$work/header"
+    strict_cxx -std=c++11 "$work/header.cc" "$archive" -o "$work/header"
     "$work/header"
 }
 by_example() {
-    $cc -std=c11 $strict -I include tests/boundary.c "$archive" -o "$work/boundary"
+    strict_c -std=c11 tests/boundary.c "$archive" -o "$work/boundary"
     "$work/boundary"
 }
 ends() { # STATUS OUTPUT-FILE PROGRAM [ARGUMENT..]: how it ends and what it prints; where it prints nothing, that it says why
@@ -102,7 +129,7 @@ run_examples() { # PROGRAM
     [ -s "$work/why" ] || { echo "$1: does not say that the disk is full"; exit 1; }
 }
 example_c() {
-    $cc -std=c99 $strict -I include examples/box.c "$archive" -o "$work/box_c"
+    strict_c -std=c99 examples/box.c "$archive" -o "$work/box_c"
     run_examples "$work/box_c"
 }
 example_rust() {
@@ -111,10 +138,11 @@ example_rust() {
 }
 # On a machine that is no x86-64: the archive that is shipped, in x86-64 programs, through the kit's emulator. There are no C headers for
 # x86-64 here, so the C text goes through this machine's preprocessor first; both have the same types.
-x86() { # OUT FILE.c WORDS..
+x86() { # OUT FILE.c
     $cc -E -P -I include "$2" >"$work/x86.i"
     "$tools/bin/clang" --target=x86_64-unknown-linux-gnu -O2 -fPIC -w -x cpp-output -c "$work/x86.i" -o "$work/x86.o"
-    "$kit/on/$(uname -m)/bin/rattle-link" --target x86_64-unknown-linux-gnu --toolchain "$tools" -o "$1" "$work/x86.o" target/staticlib/libkhandzorul.a 2>/dev/null
+    "$kit/on/$(uname -m)/bin/rattle-link" --target x86_64-unknown-linux-gnu --toolchain "$tools" -o "$1" "$work/x86.o" \
+        target/staticlib/libkhandzorul.a 2>"$work/link" || { cat "$work/link"; exit 1; }
 }
 shipped() {
     x86 "$work/x86" tests/boundary.c
@@ -131,11 +159,11 @@ if ! has "$cc"; then
     exit 3
 fi
 if [ -n "$archive" ]; then
-    cp "$archive" "$work/libkhandzorul.a"
+    cp "$archive" "$work/libkhandzorul.a" || { fail "the library: no archive $archive"; exit 1; }
     archive=$work/libkhandzorul.a
 else
     archive=$work/libkhandzorul.a
-    part 'the library' sh tools/native-lib.sh $how khandzorul "$archive"
+    part 'the library' sh tools/native-lib.sh ${how:+"$how"} khandzorul "$archive"
     [ "$failed" -eq 0 ] || exit 1
 fi
 part 'the header in C' header_c
@@ -144,19 +172,21 @@ part 'calls by example' by_example
 part 'examples/box.c' example_c
 if has rustc; then part 'examples/box.rs' example_rust; else left_out 'examples/box.rs' 'no rustc'; fi
 if has python3; then
-    part 'the library beside the given Rust' python3 tests/oracle/compare.py --lib "$archive" --keep "$work/oracle" --build "${BUILD_DIR:-$work/rust}"
-    part 'the recorded answers of vectors' python3 tests/oracle/record.py --check --build "${BUILD_DIR:-$work/rust}"
+    part 'the library beside the given Rust' python3 tests/oracle/compare.py --lib "$archive" --keep "$work/oracle" --build "$rust"
+    part 'the recorded answers of vectors' python3 tests/oracle/record.py --check --build "$rust"
 else
     left_out 'the library beside the given Rust' 'no python3'
+    left_out 'the recorded answers of vectors' 'no python3'
 fi
 if [ "$(uname -m)" = x86_64 ] && [ -z "$how" ]; then
     : # the archive above is the shipped one
 elif [ -n "$how" ] || [ ! -f target/staticlib/libkhandzorul.a ]; then
     left_out 'the archive that is shipped' 'nothing is proved in this run'
+elif ! has rt; then
+    left_out 'the archive that is shipped' 'no Rattle kit'
 else
     kit_find
     part 'the archive that is shipped, emulated' shipped
     [ ! -f "$work/oracle/ours.txt" ] || part 'the same beside the calls above' shipped_driver
 fi
-echo "boundary: $done parts done, $out left out, $failed failed"
-[ "$failed" -eq 0 ]
+[ "$failed" -eq 0 ] # the exit status
