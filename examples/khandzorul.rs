@@ -4,8 +4,11 @@
 //! since Rust lends it apart. Numbers go over with 64 bits, so that the library decides whether they are in range: widen with `from`, and never
 //! cut with `as`. This file is believed and not proved: its declarations must be those of include/khandzorul.h.
 
+use std::mem::size_of;
+
 pub const TRACKER_WORDS: usize = 32;
 pub const WORD_BYTES: usize = 10;
+pub const PACKET_WORDS: usize = 4096;
 pub const RECORD_NUMBERS: usize = 4;
 pub const RECORDS_PER_WORD: usize = 6;
 pub const FILE_BYTES: usize = 60000;
@@ -65,6 +68,7 @@ pub struct Word {
 }
 
 /// What is said of a payload: the words taken and records written, also where `refused` says why it stopped.
+#[must_use]
 #[derive(Clone, Copy, Debug, PartialEq, Eq)]
 pub struct Payload {
     pub words: usize,
@@ -110,6 +114,9 @@ struct PayloadAnswer {
     records: u64,
 }
 
+// As the header asserts.
+const _: () = assert!(size_of::<WordAnswer>() == 64 && size_of::<PayloadAnswer>() == 24);
+
 extern "C" {
     fn khz_start(tracker: *mut u64, tracker_len: usize, running: u64, frames: u64, periodic: u64, period: u64) -> u64;
     #[rustfmt::skip]
@@ -141,7 +148,8 @@ fn frame(a: &WordAnswer) -> Frame {
     match a.frame {
         0 => Frame::None,
         1 => Frame::Opened,
-        _ => Frame::Closed { start: a.frame_start, end: a.frame_end },
+        2 => Frame::Closed { start: a.frame_start, end: a.frame_end },
+        _ => panic!("a frame that the header has not"),
     }
 }
 

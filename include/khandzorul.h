@@ -86,7 +86,7 @@ enum khz_refusal {
     KHZ_FILE_SHAPE = 6,                          /* a file is under 16 or over 60,000 bytes, or its offsets or length are not as stated */
     KHZ_FILE_COUNT = 7,                          /* the packets' word counts do not sum to the header's */
     KHZ_NO_TRACKER = 100,                        /* tracker_len is not KHZ_TRACKER_WORDS, or the array holds no tracker (all zeros is none) */
-    KHZ_NO_SETTINGS = 101                        /* a flag is neither 0 nor 1, or the period is above 65,535 */
+    KHZ_NO_SETTINGS = 101                        /* a flag is neither 0 nor 1, or periodic is 1 and the period above 65,535 */
 };
 
 /* Codes of records: the second number of a record. docs/CODES.md says of each what its two last numbers are and what to look at.
@@ -105,15 +105,15 @@ enum khz_code {
     KHZ_CODE_USER_FIELDS = 81,                   /* R: a CDW has other user fields than the one before, and its index is not 0 */
     KHZ_CODE_EARLIER_CROSSING = 440,             /* R: after packet done, a TDH is at an earlier crossing than the TDH before it */
     KHZ_CODE_CONTINUATION_BC = 441,              /* R: a TDH continuation has another crossing than the TDH before it */
-    KHZ_CODE_CONTINUATION_ORBIT = 442,           /* R: another orbit */
-    KHZ_CODE_CONTINUATION_TYPE = 443,            /* R: another trigger type */
+    KHZ_CODE_CONTINUATION_ORBIT = 442,           /* R: a TDH continuation has another orbit than the TDH before it */
+    KHZ_CODE_CONTINUATION_TYPE = 443,            /* R: a TDH continuation has another trigger type than the TDH before it */
     KHZ_CODE_PACKET_ORBIT = 444,                 /* R: the orbit of a TDH is not its packet's */
     KHZ_CODE_PACKET_BC = 445,                    /* R: the crossing of a TDH is not its packet's */
     KHZ_CODE_UNKNOWN_IN_DATA = 991,              /* an id that is neither data, CDW nor TDT; the word was taken as data */
     KHZ_CODE_UNKNOWN_AFTER_DONE = 992,           /* an id that is neither TDH, DDW0 nor IHW; the word was taken as DDW0 */
     KHZ_CODE_PAST_LAST_CROSSING = 1045,          /* R: a crossing is above 3563, so that there is no period */
     KHZ_CODE_OUTER_LANE = 1071,                  /* R: an outer lane sent data, and the IHW has not switched it on */
-    KHZ_CODE_INNER_LANE = 1072,                  /* R: an inner lane did */
+    KHZ_CODE_INNER_LANE = 1072,                  /* R: an inner lane sent data, and the IHW has not switched it on */
     KHZ_CODE_INPUT = 1073,                       /* R: the input number of an outer lane is above 6 */
     KHZ_CODE_DDW0_STOP = 1110,                   /* R: a DDW0 stands in a packet whose stop is not 1 */
     KHZ_CODE_DDW0_PAGE = 1111,                   /* R: a DDW0 stands on page 0 */

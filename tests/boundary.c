@@ -1,5 +1,5 @@
-/* boundary.c: the C boundary by example: 01's whole case through word and payload calls, every number that comes in about the edge of its
- * range, and khz_check_file about its edges.
+/* boundary.c: the C boundary by example: 01's whole case through word and payload calls, every number and length that comes in about the edge of
+ * its range, and khz_check_file about its edges.
  *
  *     cc -std=c11 -I include tests/boundary.c target/staticlib/libkhandzorul.a -o /tmp/boundary && /tmp/boundary
  *
@@ -153,6 +153,35 @@ static void setting_ranges(void)
     expect(memcmp(before, t, sizeof t) == 0, "a period that is not set is kept");
 }
 
+/* Lengths that are too large, by one and by what a conversion to 32 bits would cut off. 100 comes before 5 and before 1. */
+static void lengths(void)
+{
+    static const size_t more[] = {
+        1,
+#if SIZE_MAX > UINT32_MAX
+        (size_t)1 << 32,
+#endif
+    };
+    uint64_t t[KHZ_TRACKER_WORDS], before[KHZ_TRACKER_WORDS], records[KHZ_RECORDS_PER_WORD * KHZ_RECORD_NUMBERS];
+    const uint8_t *w = whole_case + CASE_WORDS;
+    const size_t room = sizeof records / sizeof *records;
+
+    begin_case(t);
+    memcpy(before, t, sizeof t);
+    for (size_t k = 0; k < sizeof more / sizeof *more; k++) {
+        size_t n = KHZ_TRACKER_WORDS + more[k], bytes = KHZ_WORD_BYTES + more[k];
+        expect(khz_start(t, n, 1, 1, 1, 0) == KHZ_NO_TRACKER, "khz_start takes a longer array");
+        expect(khz_packet(t, n, 0, 0, 0, 4096, 0, 0, 2) == KHZ_NO_TRACKER, "khz_packet takes a longer array, or 100 does not come before 5");
+        expect(khz_word(t, n, w, bytes, records, room).refusal == KHZ_NO_TRACKER, "khz_word takes a longer array, or 100 does not come before 1");
+        expect(khz_payload(t, n, w, bytes, records, room).refusal == KHZ_NO_TRACKER, "khz_payload does");
+        expect(khz_reset(t, n) == KHZ_NO_TRACKER, "khz_reset takes a longer array");
+        expect(khz_word(t, KHZ_TRACKER_WORDS, w, bytes, records, room).refusal == KHZ_WRONG_LENGTH, "a longer word is not refused with 1");
+        expect(khz_payload(t, KHZ_TRACKER_WORDS, w, bytes, records, room).refusal == KHZ_WRONG_LENGTH, "a longer payload is not refused with 1");
+        expect(khz_check_file(whole_case, sizeof whole_case + more[k]) == KHZ_FILE_SHAPE, "a longer file is not refused with 6");
+    }
+    expect(memcmp(before, t, sizeof t) == 0, "a call with a wrong length changed the tracker");
+}
+
 /* An array that another version of the boundary wrote is no tracker. */
 static void versions(void)
 {
@@ -256,6 +285,7 @@ int main(void)
     case_by_payload();
     packet_ranges();
     setting_ranges();
+    lengths();
     versions();
     files();
     printf("boundary: %u checks, %u failed\n", checks, failed);
