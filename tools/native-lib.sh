@@ -28,8 +28,12 @@ trap 'rm -rf "$work"' EXIT
 trap 'exit 1' HUP INT TERM
 
 if [ -z "$unproved" ] && [ "$machine" = x86_64 ]; then
-    rt staticlib "$name" >"$work/log" 2>&1 || { cat "$work/log" >&2; exit 1; }
-    cp "target/staticlib/lib$name.a" "$out"
+    # copied under the lock: another run may write it anew
+    (
+        kit_lock .
+        rt staticlib "$name" >"$work/log" 2>&1 || { cat "$work/log" >&2; exit 1; }
+        cp "target/staticlib/lib$name.a" "$out"
+    )
     echo "native-lib: $name, proved, as it is shipped"
     exit 0
 fi
@@ -49,17 +53,9 @@ exec "$tools/bin/clang" "\$@"
 END
 chmod +x "$work/tools/bin/clang"
 
-# All that a library stands on, of crates.txt and of the kit, in any order.
-below() {
-    for d in $(sed -n "s/#.*//; s/^$1: *//p" crates.txt "$kit/libs/libs.txt"); do
-        case " $found " in *" $d "*) ;; *) found="$found $d"; below "$d" ;; esac
-    done
-}
-
 if [ -n "$unproved" ]; then
     how='not proved'
-    found=
-    below "$name"
+    kit_below "$name"
     echo 'fn main() {}' >"$work/main.rt"
     set -- --lib "std=$kit/libs/std/src/lib.rt" --lib "$name=$root"
     for d in $found; do
@@ -76,10 +72,14 @@ else
     for f in "$kit/on/$machine"/*; do [ "$f" = "$tools" ] || ln -s "$f" "$work/kit/on/$machine/"; done
     mv "$work/tools" "$work/kit/on/$machine/toolchain"
     status=0
-    RATTLE_HOME=$work/kit rt staticlib "$name" >"$work/log" 2>&1 || status=$?
+    kit_alone env RATTLE_HOME="$work/kit" rt staticlib "$name" >"$work/log" 2>&1 || status=$?
     set --
 fi
-[ "$status" -eq 0 ] && [ -f "$work/module.bc" ] || { cat "$work/log" >&2; echo "native-lib: $name was not compiled (rt dev $name says more)" >&2; exit 1; }
+if [ "$status" -ne 0 ] || [ ! -f "$work/module.bc" ]; then
+    cat "$work/log" >&2
+    echo "native-lib: $name was not compiled (rt dev $name says more)" >&2
+    exit 1
+fi
 
 "$tools/bin/clang" --target=x86_64-unknown-linux-gnu -S -emit-llvm -O0 -Xclang -disable-llvm-passes -x ir "$work/module.bc" -o "$work/kit.ll"
 python3 "$here/module.py" "$machine" "$@" <"$work/kit.ll" >"$work/ours.ll"
