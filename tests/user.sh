@@ -1,110 +1,325 @@
 #!/bin/sh
-# user.sh: what a person at the bench would try with ./check, and the answer that each must get: exit status, standard output, and a word
-# on standard error wherever nothing was checked.
+# user.sh: what a person at the bench would try with ./check and ./run, and the answer that each must get: exit status, standard output, and
+# a word on standard error wherever nothing was checked.
 #
-#     tests/user.sh            benchcheck is proved and built by ./check where it is not
+#     tests/user.sh            the programs are proved and built by ./check and ./run where they are not
 #
-# A line for each trial that fails; the last line says how many there were. Exit status 1 if one failed.
+# What would spoil the checkout is tried on a copy of it. A line for each trial that fails, and for each that was left out; the last line
+# says how many there were. Exit status 1 if one failed.
 set -eu
-cd "$(dirname "$0")/.."
+cd "$(dirname "$(readlink -f "$0")")/.."
+. tools/kit.sh
+here=$PWD
 work=$(mktemp -d "${TMPDIR:-/tmp}/khandzorul-user.XXXXXX")
-trap 'rm -rf "$work"' EXIT
+trap 'chmod -R u+w "$work"; rm -rf "$work"' EXIT
 trap 'exit 1' HUP INT TERM
 tried=0 failed=0
 
 wrong() { failed=$((failed + 1)); echo "user: $what: $1"; }
-judge() { # STATUS OUTPUT-FILE ERROR-PATTERN: what ./check did, against what it must do
+left_out() { echo "user: left out: $1"; }
+judge() { # STATUS OUTPUT-FILE ERROR-PATTERN: what was done, against what must be done
     tried=$((tried + 1))
     [ "$status" -eq "$1" ] || wrong "exit status $status, not $1"
-    cmp -s "$work/out" "$2" || { wrong 'printed'; cat "$work/out"; }
-    # notes about the kit aside
+    cmp -s "$work/out" "$2" || { wrong 'printed'; head -n 20 "$work/out"; }
+    # what notes say, of the kit or of another run, is no word about the file; a pattern 'note: ..' asks for one, and for nothing else
     grep -v '^note: ' "$work/err" >"$work/said" || true
     case $3 in
     '') [ ! -s "$work/said" ] || { wrong 'said'; cat "$work/said"; } ;;
+    'note: '*)
+        grep -q -- "^$3" "$work/err" || { wrong "did not say '$3', but"; cat "$work/err"; }
+        [ ! -s "$work/said" ] || { wrong 'said'; cat "$work/said"; }
+        ;;
     *) grep -q -- "$3" "$work/said" || { wrong "did not say '$3', but"; cat "$work/said"; } ;;
     esac
 }
-try() { # WHAT STATUS OUTPUT-FILE ERROR-PATTERN ARGUMENT..
-    what=$1 must=$2 out=$3 says=$4
+try_command() { # WHAT STATUS OUTPUT-FILE ERROR-PATTERN COMMAND..
+    what=$1 must=$2 expected=$3 says=$4
     shift 4
     status=0
-    ./check "$@" >"$work/out" 2>"$work/err" </dev/null || status=$?
-    judge "$must" "$out" "$says"
+    "$@" >"$work/out" 2>"$work/err" </dev/null || status=$?
+    judge "$must" "$expected" "$says"
+}
+try() { # WHAT STATUS OUTPUT-FILE ERROR-PATTERN ARGUMENT..: of ./check
+    what=$1 must=$2 expected=$3 says=$4
+    shift 4
+    try_command "$what" "$must" "$expected" "$says" ./check "$@"
+}
+refused_6() { # WHAT CAUSE FILE
+    try "$1" 2 "$work/refused6" "refused 6: $2\$" "$3"
 }
 bytes() { head -c "$1" /dev/zero; }
+with() { # FILE OFFSET BYTES-FOR-PRINTF HOW-MANY: the file with other bytes there
+    head -c "$2" "$1"
+    # shellcheck disable=SC2059 # octal escapes
+    printf "$3"
+    tail -c "+$(($2 + $4 + 1))" "$1"
+}
 
 : >"$work/nothing"
+echo 'refused 3' >"$work/refused3"
+echo 'refused 5' >"$work/refused5"
 echo 'refused 6' >"$work/refused6"
 echo 'refused 7' >"$work/refused7"
 printf 'pos code first second\nrecords 0\n' >"$work/none"
-for f in examples/*.hex; do sh tools/hex.sh <"$f" >"$work/$(basename "$f" .hex)"; done
-./check "$work/whole_case" >/dev/null 2>"$work/err" || [ $? -eq 1 ] || { cat "$work/err"; echo "user: benchcheck is not there"; exit 1; }
+for f in whole_case two_pages; do sh tools/hex.sh <"examples/$f.hex" >"$work/$f"; done
+whole=$work/whole_case
+./check "$whole" >/dev/null 2>"$work/err" || [ $? -eq 1 ] || { cat "$work/err"; echo "user: benchcheck is not there"; exit 1; }
 
-try 'the whole case of document 01' 1 examples/whole_case.out '' "$work/whole_case"
+try 'the whole case of document 01' 1 examples/whole_case.out '' "$whole"
 try 'a file of three packets' 1 examples/two_pages.out '' "$work/two_pages"
 
 # a clean one: the whole case with lane 1 active too, and the second trigger left out
 printf '01000000 04000000 10000000 28000000 0000000000000000 07000000 10000000 EC0D 0000 00 02 0400
 030000000000000000E0 1010EC0D0700000000E8 00000000000000000021 000000000000000001F0' | sh tools/hex.sh >"$work/clean"
 try 'a file with nothing wrong' 0 "$work/none" '' "$work/clean"
-bytes 16 >"$work/zeros"
-try 'sixteen zeros' 2 "$work/refused6" 'is it a bench file' "$work/zeros"
 echo '00000000 00000000 10000000 10000000' | sh tools/hex.sh >"$work/no_packets"
 try 'a file without packets' 0 "$work/none" '' "$work/no_packets"
 
-# damaged: a byte lost, a byte changed in the header, in a packet, in a word
-head -c 89 "$work/whole_case" >"$work/short"
-try 'a file that lost its last byte' 2 "$work/refused6" 'refused 6' "$work/short"
-(printf '\001\000\000\000\006'; tail -c +6 "$work/whole_case") >"$work/six_words"
-try 'a file whose header counts a word more' 2 "$work/refused6" 'refused 6' "$work/six_words"
-(head -c 38 "$work/whole_case"; printf '\004'; tail -c +40 "$work/whole_case") >"$work/four_words"
+# 6, each cause, and each with its numbers
+refused_6 'an empty file' '0 bytes; at least 16' "$work/nothing"
+bytes 1 >"$work/one"
+refused_6 'a file of one byte' '1 byte; at least 16' "$work/one"
+head -c 15 "$whole" >"$work/fifteen"
+refused_6 'a file of 15 bytes' '15 bytes; at least 16' "$work/fifteen"
+(cat "$work/no_packets"; bytes 59985) >"$work/long"
+refused_6 'a file of 60,001 bytes' '60,001 bytes; at most 60,000' "$work/long"
+(cat "$work/no_packets"; bytes 1234551) >"$work/longer"
+refused_6 'a file of a million bytes' '1,234,567 bytes; at most 60,000' "$work/longer"
+bytes 16 >"$work/zeros"
+refused_6 'sixteen zeros' 'not a bench file: its packet offset is 0, not 16' "$work/zeros"
+echo 'no bench file at all' >"$work/text" # from byte 8: ' fil', 0x6C696620
+refused_6 'a text' 'not a bench file: its packet offset is 1818846752, not 16' "$work/text"
+refused_6 'a page of this repository' 'not a bench file: its packet offset is [0-9]*, not 16' README.md
+refused_6 'a program' '[0-9,]* bytes; at most 60,000' /bin/sh
+with "$whole" 12 '\051' 1 >"$work/offset_41"
+refused_6 'a word offset of 41' 'the header says 1 packet and a word offset of 41, not 40' "$work/offset_41"
+with "$whole" 0 '\377\377\377\377' 4 >"$work/packets_most"
+refused_6 'a header with the most packets' 'the header says 4,294,967,295 packets and a word offset of 40, not 103079215096' "$work/packets_most"
+head -c 89 "$whole" >"$work/short"
+refused_6 'a file that lost its last byte' 'the header says 5 words, 89 bytes are there, not 90' "$work/short"
+with "$whole" 4 '\001' 1 >"$work/one_word"
+refused_6 'a file whose header counts one word' 'the header says 1 word, 90 bytes are there, not 50' "$work/one_word"
+with "$whole" 4 '\377\377\377\377' 4 >"$work/words_most"
+refused_6 'a header with the most words' 'the header says 4,294,967,295 words, 90 bytes are there, not 42,949,672,990' "$work/words_most"
+what='a file of 60,001 bytes, through a pipe' status=0
+# shellcheck disable=SC2002 # a pipe is what is tried
+cat "$work/long" | ./check - >"$work/out" 2>"$work/err" || status=$?
+judge 2 "$work/refused6" 'standard input: refused 6: 60,001 bytes; at most 60,000$'
+what='the same on standard input' status=0
+./check - <"$work/long" >"$work/out" 2>"$work/err" || status=$?
+judge 2 "$work/refused6" 'standard input: refused 6: 60,001 bytes; at most 60,000$'
+refused_6 'a device without end' '10,000,000 bytes or more; at most 60,000' /dev/zero
+
+# otherwise damaged: a byte changed in a packet, in a word
+with "$whole" 38 '\004' 1 >"$work/four_words"
 try 'a file whose packet counts a word less' 2 "$work/refused7" "don't sum up" "$work/four_words"
-(head -c 37 "$work/whole_case"; printf '\001'; tail -c +39 "$work/whole_case") >"$work/format_1"
-echo 'refused 5' >"$work/refused5"
+with "$whole" 37 '\001' 1 >"$work/format_1"
 try 'a packet of format 1' 2 "$work/refused5" 'out of its range' "$work/format_1"
-(head -c 69 "$work/whole_case"; printf '\042'; tail -c +71 "$work/whole_case") >"$work/lane_2"
+with "$whole" 69 '\042' 1 >"$work/lane_2"
 sed 's/^84 1072 1 1$/84 1072 2 1/' examples/whole_case.out >"$work/lane_2.out"
 try 'another lane in the whole case' 1 "$work/lane_2.out" '' "$work/lane_2"
+# 4,097 words in the header and in the packet
+(printf '01000000 01100000 10000000 28000000 0000000000000000 07000000 10000000 EC0D 0000 00 02 0110' | sh tools/hex.sh; bytes 40970) >"$work/full"
+try 'a packet of 4,097 words' 2 "$work/refused3" 'more than 4,096 words' "$work/full"
 
-try 'an empty file' 2 "$work/refused6" 'under 16' "$work/nothing"
-(head -c 16 "$work/no_packets"; bytes 59985) >"$work/long"
-[ "$(wc -c <"$work/long")" -eq 60001 ] || wrong 'the long file is not 60,001 bytes'
-try 'a file of 60,001 bytes' 2 "$work/refused6" 'over 60,000' "$work/long"
-try 'a text file' 2 "$work/refused6" 'is it a bench file' README.md
-try 'a program' 2 "$work/refused6" 'is it a bench file' /bin/sh
+# The largest file: 16 + 6 * 24 + 5984 * 10 = 60,000 bytes, six packets of 1,000 words, the last of 984, and every word is nine zeros and 0x47.
+# By 01: the first is taken as an IHW of another id (30, 1), the second as a TDH of another id (40, 1) with no bit set, so that the packet, which
+# is all zeros too, differs in nothing. All that follow stand in the data section: 0x47 is unknown there (991) and no data id (70); its top bits
+# are those of an outer lane, 7 + 0x47 mod 72 = 78, which is not active (1071), and its input, 0x47 mod 8, is 7 (1073).
+{
+    printf '06000000 60170000 10000000 A0000000'
+    for i in 0 1 2 3 4 5; do printf ' 00000%s0000000000 00000000 00000000 0000 0000 00 02 %s' "$i" "$([ "$i" -eq 5 ] && echo D803 || echo E803)"; done
+} | sh tools/hex.sh >"$work/largest"
+(bytes 9; printf '\107') >"$work/words"
+while [ "$(wc -c <"$work/words")" -lt 59840 ]; do cat "$work/words" "$work/words" >"$work/twice"; mv "$work/twice" "$work/words"; done
+head -c 59840 "$work/words" >>"$work/largest"
+[ "$(wc -c <"$work/largest")" -eq 60000 ] || { what='the largest file'; wrong 'is not 60,000 bytes'; }
+awk 'BEGIN {
+    print "pos code first second"
+    for (w = 0; w < 5984; w++) {
+        at = int(w / 1000) * 65536 + 64 + w % 1000 * 10
+        if (w == 0) { print at, 30, 1, 0; n++ }
+        else if (w == 1) { print at, 40, 1, 0; n++ }
+        else { print at, 991, 71, 0; print at, 70, 71, 0; print at, 1071, 78, 0; print at, 1073, 7, 0; n += 4 }
+    }
+    print "records " n
+}' >"$work/largest.out"
+[ "$(tail -n 1 "$work/largest.out")" = "records $((2 + 5982 * 4))" ] || { what='the largest file'; wrong 'its records are counted wrong here'; }
+try 'the largest file, every word wrong' 1 "$work/largest.out" '' "$work/largest"
+
 try 'a folder' 2 "$work/nothing" 'is a folder' "$work"
 try 'a file that is not there' 2 "$work/nothing" 'no such file' "$work/nowhere"
 try 'no file named' 2 "$work/nothing" 'usage'
-try 'two files' 2 "$work/nothing" 'usage' "$work/whole_case" "$work/whole_case"
+try 'two files' 2 "$work/nothing" 'usage' "$whole" "$whole"
 try 'a name with a blank and a quote' 2 "$work/nothing" 'no such file' "$work/it's not"
-cp "$work/whole_case" "$work/it's here"
+cp "$whole" "$work/it's here"
 try 'a file whose name has a blank and a quote' 1 examples/whole_case.out '' "$work/it's here"
 
 what='standard input' status=0
-./check - <"$work/whole_case" >"$work/out" 2>"$work/err" || status=$?
+./check - <"$whole" >"$work/out" 2>"$work/err" || status=$?
 judge 1 examples/whole_case.out ''
 what='a pipe' status=0
-cat "$work/whole_case" | ./check - >"$work/out" 2>"$work/err" || status=$?
+# shellcheck disable=SC2002 # a pipe is what is tried
+cat "$whole" | ./check - >"$work/out" 2>"$work/err" || status=$?
 judge 1 examples/whole_case.out ''
+what='in pieces: cut in the header, in the packet, in a word' status=0
+(head -c 7 "$whole"; sleep 1; tail -c +8 "$whole" | head -c 20; sleep 1; tail -c +28 "$whole" | head -c 42; sleep 1; tail -c +70 "$whole") |
+    ./check - >"$work/out" 2>"$work/err" || status=$?
+judge 1 examples/whole_case.out ''
+what='the largest file in pieces' status=0
+(head -c 20011 "$work/largest"; sleep 1; tail -c +20012 "$work/largest" | head -c 39988; sleep 1; tail -c 1 "$work/largest") |
+    ./check - >"$work/out" 2>"$work/err" || status=$?
+judge 1 "$work/largest.out" ''
 what='closed standard input' status=0
 ./check - <&- >"$work/out" 2>"$work/err" || status=$?
 judge 2 "$work/nothing" 'closed'
-what='from another folder' status=0
-here=$PWD
-(cd "$work" && "$here/check" whole_case) >"$work/out" 2>"$work/err" || status=$?
-judge 1 examples/whole_case.out ''
+what='a folder on standard input' status=0
+./check - <. >"$work/out" 2>"$work/err" || status=$?
+judge 2 "$work/nothing" 'could not be read'
 if [ -w /dev/full ]; then
     what='a full disk' status=0
-    ./check "$work/whole_case" >/dev/full 2>"$work/err" || status=$?
+    ./check "$whole" >/dev/full 2>"$work/err" || status=$?
     : >"$work/out"
     judge 2 "$work/nothing" 'could not be printed'
 else
-    echo 'user: left out: a full disk (no /dev/full)'
+    left_out 'a full disk (no /dev/full)'
 fi
 what='closed standard output' status=0
-./check "$work/whole_case" 2>"$work/err" >&- || status=$?
+./check "$whole" 2>"$work/err" >&- || status=$?
 : >"$work/out"
 judge 2 "$work/nothing" 'could not be printed'
+
+# from elsewhere, by its path and by links
+mkdir "$work/elsewhere"
+ln -s "$here/check" "$work/elsewhere/look"
+ln -s look "$work/elsewhere/look again"
+ln -s "$here/run" "$work/elsewhere/start"
+cp "$whole" "$work/elsewhere/file"
+cd "$work/elsewhere"
+try_command 'from another folder' 1 "$here/examples/whole_case.out" '' "$here/check" file
+try_command 'through a link' 1 "$here/examples/whole_case.out" '' ./look file
+try_command 'through a link to a link' 1 "$here/examples/whole_case.out" '' './look again' file
+try_command 'run vectors' 0 "$here/crates/vectors/stdout" '' "$here/run" vectors
+try_command 'run edges, through a link' 0 "$here/crates/edges/stdout" '' ./start edges
+cd "$here"
+what='run fields' status=0
+./run fields <crates/fields/stdin >"$work/out" 2>"$work/err" || status=$?
+judge 0 crates/fields/stdout ''
+try_command 'run a program that is none' 2 "$work/nothing" "no program 'nowhere' here; the programs are benchcheck edges fields vectors" ./run nowhere
+try_command 'run a library' 2 "$work/nothing" "no program 'words' here" ./run words
+try_command 'run an empty name' 2 "$work/nothing" "no program '' here" ./run ''
+try_command 'run a path' 2 "$work/nothing" "no program '../crates/fields' here" ./run ../crates/fields
+try_command 'run without a name' 2 "$work/nothing" 'usage' ./run
+
+# what they say of themselves; elsewhere, where only what they print of themselves can help
+for command in check run test tools/native-lib.sh; do
+    kit_help "$command" >"$work/help"
+    what="$command: its head"
+    grep -q "^\(${command##*/}\|The tests\)" "$work/help" || wrong 'has no line that says what it is'
+    try_command "$command --help" 0 "$work/help" '' "./$command" --help
+    try_command "$command -h" 0 "$work/help" '' "./$command" -h
+done
+{
+    grep -m 1 '^## ' CHANGELOG.md | sed 's/^## /khandzorul /; s/,.*//'
+    echo "Rattle kit: $(rt version)"
+} >"$work/version"
+for command in check run test; do
+    what="$command --version" status=0
+    "./$command" --version >"$work/seen" 2>"$work/err" || status=$?
+    sed 's/; the README names .*//' "$work/seen" >"$work/out"
+    judge 0 "$work/version" ''
+done
+
+# A copy of the checkout, proved as this one is.
+copy=$work/copy
+mkdir -p "$copy/target"
+cp -Rp check run README.md CHANGELOG.md crates.txt crates tools "$copy"
+kit_alone cp -Rp target/bin target/obj target/log target/stamp "$copy/target"
+ln -s "$here/target/rlib" "$copy/target/rlib"
+chmod -R a+rX "$copy"
+chmod 711 "$work"
+
+# four files at once, while the program is lost: one run builds it, the others wait
+rm "$copy/target/bin/benchcheck"
+for f in whole_case two_pages clean short; do
+    (
+        status=0
+        "$copy/check" "$work/$f" >"$work/$f.printed" 2>"$work/$f.said" </dev/null || status=$?
+        echo "$status" >"$work/$f.status"
+    ) &
+done
+wait
+cp "$work/none" "$work/clean.out"
+cp "$work/refused6" "$work/short.out"
+cp examples/*.out "$work"
+at_once() { # FILE STATUS ERROR-PATTERN
+    what="four at once, the program lost: $1" status=$(cat "$work/$1.status")
+    mv "$work/$1.printed" "$work/out"
+    mv "$work/$1.said" "$work/err"
+    judge "$2" "$work/$1.out" "$3"
+}
+at_once whole_case 1 ''
+at_once two_pages 1 ''
+at_once clean 0 ''
+at_once short 2 'refused 6'
+
+# an empty program is built again; who watches sees it
+: >"$copy/target/bin/benchcheck"
+if command -v script >/dev/null 2>&1; then
+    what='an empty program, at a terminal' status=0
+    script -qec "'$copy/check' '$whole'" /dev/null </dev/null >"$work/terminal" 2>"$work/err" || status=$?
+    # what was said, then what was found
+    tr -d '\r' <"$work/terminal" >"$work/seen"
+    grep -q '^\[\([0-9]*\)/\1\] benchcheck proved, [0-9]* s$' "$work/seen" || { wrong 'no line says that benchcheck is proved'; cat "$work/seen"; }
+    grep -v '^note: \|^\[' "$work/seen" >"$work/out" || true
+    judge 1 examples/whole_case.out ''
+else
+    left_out 'what is seen at a terminal (no script)'
+fi
+try_command 'an empty program' 1 examples/whole_case.out '' "$copy/check" "$whole"
+
+# without flock it goes on, and says so
+mkdir "$work/bin"
+(
+    IFS=:
+    for folder in $PATH; do ln -s "$folder"/* "$work/bin" 2>/dev/null || true; done
+)
+rm -f "$work/bin/flock"
+try_command 'without flock' 1 examples/whole_case.out 'note: no lock' env PATH="$work/bin" "$copy/check" "$whole"
+
+# a user who can't write the folder; root can always, so nobody is asked
+as=
+if [ "$(id -u)" -eq 0 ]; then as='setpriv --reuid=65534 --regid=65534 --clear-groups'; fi
+mkdir "$work/tmp"
+chmod 777 "$work/tmp"
+read_only() { # WHAT STATUS OUTPUT-FILE ERROR-PATTERN COMMAND..
+    chmod -R a-w "$copy"
+    what=$1 must=$2 expected=$3 says=$4
+    shift 4
+    status=0
+    # shellcheck disable=SC2086 # the words of $as
+    TMPDIR=$work/tmp $as "$@" >"$work/out" 2>"$work/err" <"$whole" || status=$?
+    judge "$must" "$expected" "$says"
+    ! grep -q 'an old log' "$work/err" || wrong 'showed an old log'
+    chmod -R u+w "$copy"
+}
+# shellcheck disable=SC2016,SC2086 # the other shell's $1; the words of $as
+if ! $as sh -c 'cd "$1" && rt version' sh "$copy" >/dev/null 2>&1; then
+    left_out "a folder that can't be written (root can write all, and nobody can't be asked: no setpriv, or no way to the kit or to $work)"
+else
+    rm -f "$copy/target/bin/edges"
+    for f in target/run.log target/log/benchcheck.out target/log/fields.out; do echo 'an old log' >"$copy/$f"; done
+    user=$(${as:-env} id -un 2>/dev/null || ${as:-env} id -u)
+    read_only "a folder that can't be written, proved" 1 examples/whole_case.out "note: user $user can't write $copy/target: benchcheck is run as it was" "$copy/check" -
+    read_only "run there what is not proved" 2 "$work/nothing" "user $user can't write $copy/target, and edges is not proved" "$copy/run" edges
+    touch "$copy/crates/report/src/lib.rt"
+    read_only "a folder that can't be written, changed since" 2 "$work/nothing" 'not proved there since crates/report/src.* was changed' "$copy/check" -
+    rm "$copy/target/bin/benchcheck"
+    read_only "a folder that can't be written, the program lost" 2 "$work/nothing" "user $user can't write $copy/target, and benchcheck is not" "$copy/check" -
+    rm -rf "$copy/target"
+    read_only "a folder that can't be written, never proved" 2 "$work/nothing" "user $user can't write $copy/target, and benchcheck is not" "$copy/check" -
+    read_only 'run there' 2 "$work/nothing" "user $user can't write $copy/target, and fields is not" "$copy/run" fields
+fi
 
 echo "user: $tried trials, $failed failed"
 [ "$failed" -eq 0 ]

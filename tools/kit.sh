@@ -112,7 +112,7 @@ kit_program() ( # NAME FOLDER
         # rt looks at its stamps alone; what was lost of its results is made again
         [ -s "target/bin/$program" ] || rm -f "target/stamp/$program"
         for d in $found; do [ -e "target/rlib/$d.rlib" ] || rm -f "target/stamp/$d"; done
-        [ -f "target/stamp/$program" ] || echo "note: $program is proved and built first, which takes some minutes" >&2
+        [ -f "target/stamp/$program" ] || echo "note: $program is proved and built first, which can take some minutes" >&2
         { rt check "$program" 2>&1 </dev/null; echo $? >"$to/status"; } | kit_progress $# >"$to/log"
         if [ "$(cat "$to/status")" != 0 ]; then
             tail -n 20 "$to/log" >&2

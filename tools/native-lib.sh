@@ -10,14 +10,15 @@
 #
 # Run in the repository, or with ROOT set to one.
 set -eu
+here=$(dirname "$(readlink -f "$0")")
+. "$here/kit.sh"
+case ${1-} in -h | --help) kit_help "$0"; exit 0 ;; esac
 unproved=
 [ "${1:-}" != --unproved ] || { unproved=1; shift; }
 [ $# -eq 2 ] || { echo "usage: native-lib.sh [--unproved] NAME OUT.a" >&2; exit 2; }
 name=$1
 out=$(cd "$(dirname "$2")" && pwd -P)/$(basename "$2")
-here=$(cd "$(dirname "$0")" && pwd -P)
 cd "${ROOT:-$here/..}"
-. "$here/kit.sh"
 command -v rt >/dev/null 2>&1 || { echo "native-lib: no Rattle kit on the PATH" >&2; exit 2; }
 kit_find
 machine=$(uname -m)
