@@ -230,14 +230,16 @@ for command in check run test; do
     judge 0 "$work/version" ''
 done
 
-# A copy of the checkout, proved as this one is.
+# A copy of the checkout, with all that benchcheck was proved from.
 copy=$work/copy
-mkdir -p "$copy/target"
+mkdir -p "$copy/target/rlib"
 cp -Rp check run README.md CHANGELOG.md crates.txt crates tools "$copy"
-kit_alone cp -Rp target/bin target/obj target/log target/stamp "$copy/target"
-ln -s "$here/target/rlib" "$copy/target/rlib"
-chmod -R a+rX "$copy"
-chmod 711 "$work"
+take() {
+    cp -Rp target/bin target/obj target/log target/stamp "$copy/target"
+    kit_below benchcheck
+    for d in $found; do [ ! -d "crates/$d" ] || cp -Rp "target/rlib/$d.rlib" "$copy/target/rlib"; done
+}
+kit_alone take
 
 # four files at once, while the program is lost: one run builds it, the others wait
 rm "$copy/target/bin/benchcheck"
@@ -288,6 +290,9 @@ rm -f "$work/bin/flock"
 try_command 'without flock' 1 examples/whole_case.out 'note: no lock' env PATH="$work/bin" "$copy/check" "$whole"
 
 # a user who can't write the folder; root can always, so nobody is asked
+rm -rf "$copy/target/rlib"
+chmod -R a+rX "$copy"
+chmod 711 "$work"
 as=
 if [ "$(id -u)" -eq 0 ]; then as='setpriv --reuid=65534 --regid=65534 --clear-groups'; fi
 mkdir "$work/tmp"
