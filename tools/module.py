@@ -1,10 +1,11 @@
 #!/usr/bin/env python3
 """module.py: an LLVM module that the kit made for x86-64, as text, made fit for another machine. Used by native-lib.sh.
 
-    module.py MACHINE [CRATE FILE.rt] < KIT.ll > OURS.ll
+    module.py TARGET BITS LEVEL [CRATE FILE.rt] < KIT.ll > OURS.ll
 
-The kit's code is the same on every machine; what names x86-64 is the triple, the processor, and how a struct of more than 16 bytes is
-returned. With CRATE and the crate's root file it also adds the C entry points of the functions marked `#[no_mangle] pub extern "C" fn`,
+The kit's code is the same on every machine; what names x86-64 is the triple, the processor, how a struct of more than 16 bytes is
+returned, and, where BITS, the bits of C's size_t, is 32, the length behind a slice's pointer. At the levels -Oz and -Os the compiler looks for
+words in the module itself. With CRATE and the crate's root file it also adds the C entry points of the functions marked `#[no_mangle] pub extern "C" fn`,
 as the kit writes them: a slice comes as pointer and length and is handed on as a pair, all else as it is.
 """
 import re
@@ -123,17 +124,44 @@ def with_struct_results(text):
     return FUNCTION.sub(turned, text)
 
 
+def with_narrow_lengths(text):
+    """Lengths of 32 bits at the C entry points, each made 64 bits wide at once. An entry point is not internal and has no path in its name;
+    the number behind a pointer is that slice's length."""
+
+    def narrowed(m):
+        if 'internal' in m.group(1).split() or m.group(2).startswith('"'):
+            return m.group(0)
+        parameters, widened = split(m.group(3)), []
+        for k in range(1, len(parameters)):
+            length = re.fullmatch(r'i64 noundef (%\w+)', parameters[k])
+            if length and parameters[k - 1].startswith('ptr ') and 'sret' not in parameters[k - 1]:
+                parameters[k] = 'i32 noundef %s.c' % length.group(1)
+                widened.append('  %s = zext i32 %s.c to i64\n' % (length.group(1), length.group(1)))
+        return m.group(0).replace('(' + m.group(3) + ')', '(' + ', '.join(parameters) + ')', 1).replace('start:\n', 'start:\n' + ''.join(widened), 1)
+
+    return FUNCTION.sub(narrowed, text)
+
+
+def with_size(text, words):
+    """The module whose functions are to be short."""
+    groups = {m.group(4) for _, m in functions(text)}
+    return re.sub(r'^attributes (#\d+) = \{', lambda m: m.group(0) + words if m.group(1) in groups else m.group(0), text, flags=re.M)
+
+
 def main():
-    if len(sys.argv) not in (2, 4):
-        fail('usage: module.py MACHINE [CRATE FILE.rt] < KIT.ll > OURS.ll')
-    machine, text = sys.argv[1], sys.stdin.read()
-    if len(sys.argv) == 4:
-        with open(sys.argv[3]) as f:
-            text = with_entries(text, sys.argv[2], f.read())
-    if machine != 'x86_64':
+    if len(sys.argv) not in (4, 6):
+        fail('usage: module.py TARGET BITS LEVEL [CRATE FILE.rt] < KIT.ll > OURS.ll')
+    (target, bits, level), text = sys.argv[1:4], sys.stdin.read()
+    if len(sys.argv) == 6:
+        with open(sys.argv[5]) as f:
+            text = with_entries(text, sys.argv[4], f.read())
+    text = with_size(text, {'-Oz': ' minsize optsize', '-Os': ' optsize'}.get(level, ''))
+    if not target.startswith('x86_64'):
         text = with_struct_results(text)
+        if bits == '32':
+            text = with_narrow_lengths(text)
         text = re.sub(r'^target datalayout.*\n', '', text, flags=re.M)
-        text = re.sub(r'^target triple = .*', 'target triple = "%s-unknown-linux-gnu"' % machine, text, flags=re.M)
+        text = re.sub(r'^target triple = .*', 'target triple = "%s"' % target, text, flags=re.M)
         text = re.sub(r' "(target-cpu|tune-cpu|target-features)"="[^"]*"', '', text)
     sys.stdout.write(text)
 
