@@ -8,7 +8,7 @@
 #   --unproved      makes it without proving it first
 #   --before OLDER  an older archive of the library, for this machine: two columns more, so that before and after are of one run
 #   --instructions  instructions a word by valgrind's callgrind, in place of times
-#   --stack         bytes of stack a call, by painting, in place of times
+#   --stack         bytes of stack a call, by painting, in place of times; on a machine that is no x86-64, of the shipped archive too, emulated
 #   RUST_SRC        the given Rust text, default ../shared/docs/src beside the repository; without it or without cargo the Rust is left out
 #   BUILD_DIR       where the Rust is built; default: a temporary folder
 #   WORDS, ROUNDS   size of a stream (default 20000) and interleaved rounds (default 101)
@@ -17,6 +17,7 @@
 # Everything is built in a temporary folder. Streams and columns: bench.c, streams.c.
 set -eu
 cd "$(dirname "$0")/.."
+. tools/kit.sh
 instructions='' stack='' unproved='' before='' archive=''
 while [ $# -gt 0 ]; do
     case $1 in
@@ -72,6 +73,14 @@ if [ -n "$stack" ]; then
         echo "figures   bytes of stack a call, $a"
         "$work/stack"
     done
+    # on another machine, what is shipped too: the same instructions, through the kit's emulator
+    shipped=target/staticlib/libkhandzorul.a
+    if [ "$(uname -m)" != x86_64 ] && [ -f "$shipped" ]; then
+        kit_x86 "$work/x86" "$shipped" bench/stack.c bench/streams.c
+        said 'shipped  ' "$shipped"
+        echo "figures   bytes of stack a call, $shipped, x86-64, emulated"
+        kit_start "$work/x86"
+    fi
     exit 0
 fi
 if [ -n "$before" ]; then

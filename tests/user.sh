@@ -230,6 +230,17 @@ for command in check run test; do
     judge 0 "$work/version" ''
 done
 
+# the box of README, as a reader copies it
+if command -v "${CC:-cc}" >/dev/null 2>&1; then
+    # shellcheck disable=SC2016 # README's backquotes
+    sed -n '/^```c$/,/^```$/p' README.md | grep -v '^```' >"$work/box.c"
+    what="README's box example"
+    [ -s "$work/box.c" ] || wrong 'is not there'
+    try_command "README's box example" 0 "$work/nothing" '' "${CC:-cc}" -std=c99 -Wall -Wextra -Wpedantic -Werror -I include -c "$work/box.c" -o "$work/box.o"
+else
+    left_out "README's box example (no C compiler)"
+fi
+
 # A copy of the checkout, with all that benchcheck was proved from.
 copy=$work/copy
 mkdir -p "$copy/target/rlib"

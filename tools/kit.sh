@@ -48,6 +48,21 @@ kit_start() { # FILE [ARGUMENT..]
     ${emulator:+"$emulator"} "$tools/lib/ld-linux-x86-64.so.2" --library-path "$tools/lib" "$@"
 }
 
+# Compiles C for x86-64 and links it with an archive, on a machine that is none. There are no C headers for x86-64 there, so the text goes
+# through this machine's preprocessor first; both have the same types.
+kit_x86() ( # OUT ARCHIVE FILE.c..: leaves OUT.i and objects beside OUT
+    kit_find
+    out=$1 archive=$2 objects=
+    shift 2
+    for f; do
+        "${CC:-cc}" -E -P -DFOR_X86_64 -I include "$f" >"$out.i"
+        "$tools/bin/clang" --target=x86_64-unknown-linux-gnu -O2 -fPIC -w -x cpp-output -c "$out.i" -o "$out.$(basename "$f" .c).o"
+        objects="$objects $out.$(basename "$f" .c).o"
+    done
+    # shellcheck disable=SC2086 # paths of ours, in a temporary folder
+    "$kit/on/$(uname -m)/bin/rattle-link" --target x86_64-unknown-linux-gnu --toolchain "$tools" -o "$out" $objects "$archive" 2>/dev/null
+)
+
 # The folder target/ is one for all that run in a checkout, and two provers in it break each other. So each of them holds this lock, to the
 # end of the shell that took it. The repository's folder is opened for reading alone, so that one who may not write there can wait for one
 # who may. A script that holds the lock starts none that takes it.
