@@ -52,7 +52,7 @@ kit_start() { # FILE [ARGUMENT..]
 # through this machine's preprocessor first; both have the same types.
 kit_x86() ( # OUT ARCHIVE FILE.c..: leaves OUT.i and objects beside OUT
     kit_find
-    out=$1 archive=$2 objects=
+    out=$1 library=$2 objects=
     shift 2
     for f; do
         "${CC:-cc}" -E -P -DFOR_X86_64 -I include "$f" >"$out.i"
@@ -60,7 +60,7 @@ kit_x86() ( # OUT ARCHIVE FILE.c..: leaves OUT.i and objects beside OUT
         objects="$objects $out.$(basename "$f" .c).o"
     done
     # shellcheck disable=SC2086 # paths of ours, in a temporary folder
-    "$kit/on/$(uname -m)/bin/rattle-link" --target x86_64-unknown-linux-gnu --toolchain "$tools" -o "$out" $objects "$archive" 2>/dev/null
+    "$kit/on/$(uname -m)/bin/rattle-link" --target x86_64-unknown-linux-gnu --toolchain "$tools" -o "$out" $objects "$library" 2>/dev/null
 )
 
 # The folder target/ is one for all that run in a checkout, and two provers in it break each other. So each of them holds this lock, to the
