@@ -236,9 +236,39 @@ if command -v "${CC:-cc}" >/dev/null 2>&1; then
     sed -n '/^```c$/,/^```$/p' README.md | grep -v '^```' >"$work/box.c"
     what="README's box example"
     [ -s "$work/box.c" ] || wrong 'is not there'
-    try_command "README's box example" 0 "$work/nothing" '' "${CC:-cc}" -std=c99 -Wall -Wextra -Wpedantic -Werror -I include -c "$work/box.c" -o "$work/box.o"
+    try_command "README's box example" 0 "$work/nothing" '' \
+        "${CC:-cc}" -std=c99 -Wall -Wextra -Wpedantic -Werror -I include -c "$work/box.c" -o "$work/box.o"
 else
     left_out "README's box example (no C compiler)"
+fi
+
+# the library for another target; the one for this machine can be run
+if command -v python3 >/dev/null 2>&1; then
+    lib() { tools/native-lib.sh --unproved "$@" khandzorul "$work/lib.a"; }
+    for target in thumbv7em-none-eabi riscv64-unknown-elf; do
+        echo "native-lib: khandzorul, not proved, for $target: no one vouches for it, and nothing of it was run" >"$work/made"
+        try_command "the library for $target" 0 "$work/made" '' lib --target "$target" -Oz
+    done
+    try_command 'the library for a big-endian target' 2 "$work/nothing" 'not little-endian' lib --target s390x-linux-gnu
+    try_command 'the library for a target that is none' 2 "$work/nothing" 'no target nowhere' lib --target nowhere
+    try_command 'the library for no target' 2 "$work/nothing" 'usage' tools/native-lib.sh --target
+    if command -v "${CC:-cc}" >/dev/null 2>&1; then
+        for level in -O3 -Oz; do
+            what="calls by example, this machine as a target, $level" status=0
+            lib --target "$(uname -m)-unknown-linux-gnu" "$level" >"$work/err" 2>&1 &&
+                "${CC:-cc}" -std=c11 -I include tests/boundary.c "$work/lib.a" -o "$work/boundary" 2>>"$work/err" &&
+                "$work/boundary" >"$work/out" 2>>"$work/err" || status=$?
+            [ "$status" -ne 0 ] || : >"$work/err"
+            sed -n '$s/: [0-9]* checks/: checks/p' "$work/out" >"$work/seen"
+            mv "$work/seen" "$work/out"
+            echo 'boundary: checks, 0 failed' >"$work/passed"
+            judge 0 "$work/passed" ''
+        done
+    else
+        left_out 'the library for this machine as a target (no C compiler)'
+    fi
+else
+    left_out 'the library for another target (no python3)'
 fi
 
 # A copy of the checkout, with all that benchcheck was proved from.
@@ -326,15 +356,16 @@ else
     rm -f "$copy/target/bin/edges"
     for f in target/run.log target/log/benchcheck.out target/log/fields.out; do echo 'an old log' >"$copy/$f"; done
     user=$(${as:-env} id -un 2>/dev/null || ${as:-env} id -u)
-    read_only "a folder that can't be written, proved" 1 examples/whole_case.out "note: user $user can't write $copy/target: benchcheck is run as it was" "$copy/check" -
-    read_only "run there what is not proved" 2 "$work/nothing" "user $user can't write $copy/target, and edges is not proved" "$copy/run" edges
+    cannot="user $user can't write $copy/target"
+    read_only "a folder that can't be written, proved" 1 examples/whole_case.out "note: $cannot: benchcheck is run as it was" "$copy/check" -
+    read_only "run there what is not proved" 2 "$work/nothing" "$cannot, and edges is not proved" "$copy/run" edges
     touch "$copy/crates/report/src/lib.rt"
-    read_only "a folder that can't be written, changed since" 2 "$work/nothing" 'not proved there since crates/report/src.* was changed' "$copy/check" -
+    read_only 'the same, changed since' 2 "$work/nothing" 'not proved there since crates/report/src.* was changed' "$copy/check" -
     rm "$copy/target/bin/benchcheck"
-    read_only "a folder that can't be written, the program lost" 2 "$work/nothing" "user $user can't write $copy/target, and benchcheck is not" "$copy/check" -
+    read_only 'the same, the program lost' 2 "$work/nothing" "$cannot, and benchcheck is not" "$copy/check" -
     rm -rf "$copy/target"
-    read_only "a folder that can't be written, never proved" 2 "$work/nothing" "user $user can't write $copy/target, and benchcheck is not" "$copy/check" -
-    read_only 'run there' 2 "$work/nothing" "user $user can't write $copy/target, and fields is not" "$copy/run" fields
+    read_only 'the same, never proved' 2 "$work/nothing" "$cannot, and benchcheck is not" "$copy/check" -
+    read_only 'run there, never proved' 2 "$work/nothing" "$cannot, and fields is not" "$copy/run" fields
 fi
 
 echo "user: $tried trials, $failed failed"

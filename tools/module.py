@@ -4,9 +4,9 @@
     module.py TARGET BITS LEVEL [CRATE FILE.rt] < KIT.ll > OURS.ll
 
 The kit's code is the same on every machine; what names x86-64 is the triple, the processor, how a struct of more than 16 bytes is
-returned, and, where BITS, the bits of C's size_t, is 32, the length behind a slice's pointer. At the levels -Oz and -Os the compiler looks for
-words in the module itself. With CRATE and the crate's root file it also adds the C entry points of the functions marked `#[no_mangle] pub extern "C" fn`,
-as the kit writes them: a slice comes as pointer and length and is handed on as a pair, all else as it is.
+returned, and, where BITS, the bits of C's size_t, is 32, the length behind a slice's pointer. At the levels -Oz and -Os the compiler looks
+for words in the module itself. With CRATE and the crate's root file it also adds the C entry points of the functions marked
+`#[no_mangle] pub extern "C" fn`, as the kit writes them: a slice comes as pointer and length and is handed on as a pair, all else as it is.
 """
 import re
 import sys

@@ -9,7 +9,7 @@
 # --target T   compiles that module for a cross compiler's target, as thumbv7em-none-eabi or riscv64-unknown-elf: any little-endian one
 #              that the kit's clang knows (its --print-targets). Where pointers have 32 bits, lengths do too, as size_t has. No one vouches
 #              for that archive either, and nothing of it was run here: try it on the box, with tests/boundary.c
-# -Oz, -O2 ..  how that module is compiled, in place of -O3: -Oz is the shortest code
+# -Oz, -O2 ..  how that module is compiled, in place of -O3. -Oz is no shorter here: docs/LINKING.md has the sizes
 # --unproved   proves nothing and takes a second, where a proof from nothing takes minutes: a module of NAME and all that it stands on comes
 #              from the step that `rt try` runs programs with, and its C entry points are added here (module.py). For tests alone
 #
@@ -46,8 +46,12 @@ if [ -z "$target" ]; then
     target=$machine-unknown-linux-gnu
     about="$machine: for tests and timing, not what is shipped"
 fi
-facts=$("$tools/bin/clang" --target="$target" -E -dM -x c /dev/null 2>&1) || { echo "native-lib: the kit's compiler has no target $target" >&2; exit 2; }
-case $facts in *'__BYTE_ORDER__ __ORDER_LITTLE_ENDIAN__'*) ;; *) echo "native-lib: $target is not little-endian, as the module is" >&2; exit 2 ;; esac
+clang=$tools/bin/clang
+facts=$("$clang" --target="$target" -E -dM -x c /dev/null 2>&1) || { echo "native-lib: the kit's compiler has no target $target" >&2; exit 2; }
+case $facts in
+*'__BYTE_ORDER__ __ORDER_LITTLE_ENDIAN__'*) ;;
+*) echo "native-lib: $target is not little-endian, as the module is" >&2; exit 2 ;;
+esac
 case $facts in
 *'__SIZEOF_SIZE_T__ 8'*) bits=64 ;;
 *'__SIZEOF_SIZE_T__ 4'*) bits=32 ;;
@@ -82,7 +86,7 @@ cat >"$work/tools/bin/clang" <<END
 for word; do
     case \$word in *.bc) [ -f "$work/module.bc" ] || cp "\$word" "$work/module.bc" ;; esac
 done
-exec "$tools/bin/clang" "\$@"
+exec "$clang" "\$@"
 END
 chmod +x "$work/tools/bin/clang"
 
@@ -114,9 +118,9 @@ if [ "$status" -ne 0 ] || [ ! -f "$work/module.bc" ]; then
     exit 1
 fi
 
-"$tools/bin/clang" --target=x86_64-unknown-linux-gnu -S -emit-llvm -O0 -Xclang -disable-llvm-passes -x ir "$work/module.bc" -o "$work/kit.ll"
+"$clang" --target=x86_64-unknown-linux-gnu -S -emit-llvm -O0 -Xclang -disable-llvm-passes -x ir "$work/module.bc" -o "$work/kit.ll"
 python3 "$here/module.py" "$target" "$bits" "$level" "$@" <"$work/kit.ll" >"$work/ours.ll"
-"$tools/bin/clang" --target="$target" "$level" $pic -ffunction-sections -fdata-sections -Wno-override-module -c -x ir "$work/ours.ll" -o "$work/$name.o"
+"$clang" --target="$target" "$level" $pic -ffunction-sections -fdata-sections -Wno-override-module -c -x ir "$work/ours.ll" -o "$work/$name.o"
 rm -f "$out"
 "$tools/bin/llvm-ar" rcs "$out" "$work/$name.o"
 echo "native-lib: $name, $how, for $about"
