@@ -7,11 +7,10 @@ use mathlib.Core.List.{List}
 use native.Mathlib.Numerals.{add-one}
 use native.Mathlib.Omega.{arith}
 use borrow.Author.Tests.{ltb-false, eqb-true, eq-eqb, ne-eqb, not-false}
-use lib.Dec.{leb, ltb, eqb}
+use lib.Dec.{ltb, eqb}
 use lib.ListN.{length}
 use Rattle.words.specs.Word.{wordBytes}
-use Rattle.cdp_running.specs.Tracker.{inRange, maxWords}
-use Rattle.bench_file.specs.File.{headerBytes, mostBytes, packets, words, packetOffset, wordOffset, packetOf, countOf, packetPlace, wordPlace, countAt, wordsBefore, misfit, packetRefusal, firstRefusal, checkOf}
+use Rattle.bench_file.specs.File.{headerBytes, mostBytes, packets, words, packetOffset, wordOffset, packetPlace, wordPlace, countAt, wordsBefore, misfit, packetRefusal, firstRefusal, checkOf}
 
 -- Length and offsets are those of a file.
 pub record Fitting (file : List ℕ) : Type 0 where
@@ -33,11 +32,6 @@ fitting file e =
     let offset = eqb-true _ _ (not-false (eqb (wordOffset file) (packetPlace (packets file))) (d .0)) in
     let end = eqb-true _ _ (not-false (eqb (length file) (wordOffset file + wordBytes * words file)) (d .1)) in
     record { long = ltb-false _ _ (a .0); short = ltb-false _ _ (b .0); whole = end ∙ ap (λ (n : ℕ). n + wordBytes * words file) offset }
-
--- A packet's refusal, by the two tests.
-pub by-tests : (file : List ℕ) (at : ℕ) {range few : Bool} → inRange (packetOf file at) ≡ range → leb (countOf file at) maxWords ≡ few
-    → packetRefusal file at ≡ cond range (cond few 0 3) 5
-by-tests file at e k = λ i. cond (e i) (cond (k i) 0 3) 5
 
 -- One packet more in the sum.
 pub one-more : (file : List ℕ) (i : ℕ) → wordsBefore file (i + 1) ≡ wordsBefore file i + countAt file i

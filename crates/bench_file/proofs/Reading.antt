@@ -1,24 +1,40 @@
--- The reader over a file that is not refused: what holds of such a file, and that the reader gives its packets and words, each packet before
--- its words, and then the end.
+-- The reader over a file that is not refused: what holds of such a file, and the theorem that the reader, moved on from packet to word, gives its packets
+-- and words, each packet before its words, and then the end.
 -- Assumes nothing.
 use Prim.Native.Nat.{ℕ, zero, suc, _+_, _-_, _≤_, _<_}
 use mathlib.Core.Path.{_≡_, refl, sym, ap, subst, _∙_}
 use mathlib.Core.Bool.{Bool, true, false, cond}
 use mathlib.Core.Logic.{⊎-elim}
-use mathlib.Core.List.{List, [], _++_}
+use mathlib.Core.List.{List, [], _∷_, _++_}
 use native.Mathlib.Nat.{eq-or-lt-of-le, add-zero, add-suc, sub-zero}
 use native.Mathlib.Numerals.{add-one}
 use native.Mathlib.Omega.{arith}
 use borrow.Author.Tests.{leb-true, eqb-true, ne-eqb}
 use lib.Dec.{leb, eqb}
+use lib.ListN.{length}
+use denote.Ref.{RefT, now}
+use Rattle.words.specs.Word.{wordBytes}
 use Rattle.validators.specs.declared.Packet.{Packet}
 use Rattle.cdp_running.specs.Tracker.{inRange, maxWords}
 use Rattle.bench_file.specs.declared.Found.the-variants as F
-use Rattle.bench_file.specs.File.{packets, words, packetPlace, packetAt, countAt, wordPlace, wordsBefore, misfit, packetRefusal, firstRefusal, checkOf}
-use Rattle.bench_file.specs.Items.{Item, wordItems, packetItems, items, itemsFrom}
-use Rattle.bench_file.specs.Reader.{nextOf, Gives, end, packet-first, then-word, Sound, Place, PacketGiven, WordGiven}
+use Rattle.bench_file.specs.File.{packets, words, packetPlace, packetAt, countAt, wordPlace, bytesAt, wordsBefore, misfit, packetRefusal, firstRefusal, checkOf}
+use Rattle.bench_file.specs.Items.{Item, packet, word, wordItems, packetItems, items, itemsFrom}
+use Rattle.bench_file.specs.Reader.{readerAt, hasPacket, hasWord, pastPacket, pastWord, nextOf, Gives, end, packet-first, then-word, Sound, Place}
 use Rattle.bench_file.proofs.Checking.{fitting, one-more}
-use Rattle.bench_file.proofs.Finding.{packet-there, packet-past, word-there}
+use Rattle.bench_file.proofs.Finding.{packet-in, packet-past, packet-found, packet-end, past-packet, word-in, word-found, past-word}
+
+-- What a packet and a word that the reader gives mean for what is to come, at a place that it comes to.
+pub record PacketGiven (file : List ℕ) (i n left : ℕ) (p : Packet) (count : ℕ) : Type 0 where
+  pub in-range : inRange p ≡ true
+  pub few : count ≤ maxWords
+  pub next : Place file (pastPacket file i) n count
+  pub comes : itemsFrom file i n left ≡ packet p count ∷ itemsFrom file (pastPacket file i) n count
+
+pub record WordGiven (file : List ℕ) (i n left at : ℕ) : Type 0 where
+  pub one-left : 1 ≤ left
+  pub inside : at + wordBytes ≤ length file
+  pub next : Place file i (pastWord file n) (left - 1)
+  pub comes : itemsFrom file i n left ≡ word at (bytesAt file at) ∷ itemsFrom file i (pastWord file n) (left - 1)
 
 -- A choice that is 0 did not take its refusal.
 no-misfit : (b : Bool) (n : ℕ) → cond b 6 n ≡ 0 → (b ≡ false) × (n ≡ 0)
@@ -78,29 +94,19 @@ module _ {file : List ℕ} (s : Sound file) where
       let k : wordsBefore file (i + (packets file - i)) ≡ words file = ap (wordsBefore file) e ∙ s .sum in
       omega arith
 
+  word-here : (n : ℕ) → n < words file → hasWord file n ≡ true
+  word-here n h = word-in file n h (s .inside n h)
+
+  packet-here : (i : ℕ) → i < packets file → hasPacket file i ≡ true
+  packet-here i h =
+      let w = s .whole in
+      packet-in file i h (omega arith)
+
   next-word : (i n left : ℕ) → n < words file → nextOf file i n (suc left) ≡ F.Word (wordPlace file n)
-  next-word i n left h = simp (ne-eqb (suc left) 0 (λ q. omega arith)) (word-there file n h (s .inside n h))
+  next-word i n left h = simp (ne-eqb (suc left) 0 (λ q. omega arith)) (word-found file n (word-here n h))
 
   next-packet : (i n : ℕ) → i < packets file → nextOf file i n 0 ≡ F.Packet (packetAt file i) (countAt file i)
-  next-packet i n h =
-      let w = s .whole in
-      packet-there file i h (omega arith)
-
-  -- The words that are left, and then what comes after them.
-  words-given : (left i n : ℕ) (rest : List Item) → n + left ≤ words file → Gives file i (n + left) 0 rest → Gives file i n left (wordItems file left n ++ rest)
-  unfolding wordItems
-  words-given zero i n rest h g = rw (add-zero n) at g
-  words-given (suc left) i n rest h g =
-      let e : n + suc left ≡ suc n + left = omega arith in
-      then-word (next-word i n left (omega arith)) (words-given left i (suc n) rest (omega arith) (subst (λ (m : ℕ). Gives file i m 0 rest) e g))
-
-  packets-given : (k i n : ℕ) → i + k ≡ packets file → n ≡ wordsBefore file i → Gives file i n 0 (packetItems file k i n)
-  unfolding packetItems wordsBefore
-  packets-given zero i n h e = end (packet-past file i (omega arith))
-  packets-given (suc k) i n h e =
-      let most = words-at-most (suc i) (omega arith) in
-      packet-first (next-packet i n (omega arith))
-      (words-given (countAt file i) (suc i) n _ (omega arith) (packets-given k (suc i) (n + countAt file i) (omega arith) (omega arith)))
+  next-packet i n h = packet-found file i (packet-here i h)
 
   -- What a place that the reader comes to is at.
   pub reached : {i n left : ℕ} → Place file i n left → n + left ≤ words file
@@ -118,8 +124,8 @@ module _ {file : List ℕ} (s : Sound file) where
       record {
         in-range = s .in-range i h;
         few = s .count i h;
-        next = record { within = omega arith; here = omega arith };
-        comes = rw (e, add-zero n, add-one i);
+        next = rw (past-packet file i (packet-here i h)) (record { within = omega arith; here = omega arith });
+        comes = rw (past-packet file i (packet-here i h), e, add-zero n, add-one i);
       }
 
   at-word : (i n left : ℕ) → Place file i n (suc left) → WordGiven file i n (suc left) (wordPlace file n)
@@ -132,8 +138,8 @@ module _ {file : List ℕ} (s : Sound file) where
       record {
         one-left = omega arith;
         inside = s .inside n (omega arith);
-        next = record { within = p .within; here = omega arith };
-        comes = rw (less, add-one n, same);
+        next = rw (past-word file n (word-here n (omega arith))) (record { within = p .within; here = omega arith });
+        comes = rw (past-word file n (word-here n (omega arith)), less, add-one n, same);
       }
 
   at-end : (i n : ℕ) → i ≡ packets file → itemsFrom file i n 0 ≡ []
@@ -146,7 +152,7 @@ module _ {file : List ℕ} (s : Sound file) where
   pub packet-given : {i n left count : ℕ} {p : Packet} → Place file i n left → nextOf file i n left ≡ F.Packet p count → PacketGiven file i n left p count
   packet-given {i} {n} {left = zero} {count} {p} place e =
       ⊎-elim
-      (λ (h : i ≡ packets file). let z : _≡_ {A = ℕ} 0 1 = cc (packet-past file i (omega arith)) in absurd (omega arith))
+      (λ (h : i ≡ packets file). let z : _≡_ {A = ℕ} 0 1 = cc (packet-end file i (packet-past file i (omega arith))) in absurd (omega arith))
       (λ (h : i < packets file).
       let given = next-packet i n h in
       let same : packetAt file i ≡ p = cc in
@@ -162,7 +168,7 @@ module _ {file : List ℕ} (s : Sound file) where
   pub word-given : {i n left at : ℕ} → Place file i n left → nextOf file i n left ≡ F.Word at → WordGiven file i n left at
   word-given {i} {n} {left = zero} place e =
       ⊎-elim
-      (λ (h : i ≡ packets file). let z : _≡_ {A = ℕ} 0 1 = cc (packet-past file i (omega arith)) in absurd (omega arith))
+      (λ (h : i ≡ packets file). let z : _≡_ {A = ℕ} 0 1 = cc (packet-end file i (packet-past file i (omega arith))) in absurd (omega arith))
       (λ (h : i < packets file). let z : _≡_ {A = ℕ} 0 1 = cc (next-packet i n h) in absurd (omega arith))
       (eq-or-lt-of-le (place .within))
   word-given {i} {n} {left = suc left} {at} place e =
@@ -192,7 +198,34 @@ pub all-to-come : (file : List ℕ) → itemsFrom file 0 0 0 ≡ items file
 unfolding items wordItems
 all-to-come file = simp sub-zero
 
--- Over a good file the reader gives the packets and words of the definition, in order, and then the end.
-pub reader-gives : (file : List ℕ) → checkOf file ≡ 0 → Gives file 0 0 0 (items file)
+-- Over a good file the reader, from the start, gives the packets and words of the definition, in order, and then the end.
+module _ (bytes : RefT (List ℕ)) (s : Sound (now bytes)) where
+  abbrev file : List ℕ
+  file = now bytes
+
+  -- The words that are left, and then what comes after them.
+  words-given : (left i n : ℕ) (rest : List Item) → n + left ≤ words file → Gives (readerAt bytes i (n + left)) 0 rest
+      → Gives (readerAt bytes i n) left (wordItems file left n ++ rest)
+  unfolding wordItems
+  words-given zero i n rest h g = rw (add-zero n) at g
+  words-given (suc left) i n rest h g =
+      let here = word-here s n (omega arith) in
+      let e : n + suc left ≡ suc n + left = omega arith in
+      let more : Gives (readerAt bytes i (pastWord file n)) left (wordItems file left (suc n) ++ rest) =
+      rw (past-word file n here, add-one n) (words-given left i (suc n) rest (omega arith) (subst (λ (m : ℕ). Gives (readerAt bytes i m) 0 rest) e g)) in
+      then-word (word-found file n here) more
+
+  packets-given : (k i n : ℕ) → i + k ≡ packets file → n ≡ wordsBefore file i → Gives (readerAt bytes i n) 0 (packetItems file k i n)
+  unfolding packetItems wordsBefore
+  packets-given zero i n h e = end (packet-end file i (packet-past file i (omega arith)))
+  packets-given (suc k) i n h e =
+      let here = packet-here s i (omega arith) in
+      let most = words-at-most s (suc i) (omega arith) in
+      let later = packets-given k (suc i) (n + countAt file i) (omega arith) (omega arith) in
+      let more : Gives (readerAt bytes (pastPacket file i) n) (countAt file i) (wordItems file (countAt file i) n ++ packetItems file k (suc i) (n + countAt file i)) =
+      rw (past-packet file i here, add-one i) (words-given (countAt file i) (suc i) n _ (omega arith) later) in
+      packet-first (packet-found file i here) more
+
+pub reader-gives : (bytes : RefT (List ℕ)) → checkOf (now bytes) ≡ 0 → Gives (readerAt bytes 0 0) 0 (items (now bytes))
 unfolding items wordsBefore
-reader-gives file e = packets-given (sound file e) (packets file) 0 0 (omega arith) refl
+reader-gives bytes e = packets-given bytes (sound (now bytes) e) (packets (now bytes)) 0 0 (omega arith) refl

@@ -84,8 +84,11 @@ misfit file =
     || not (eqb (length file) (wordOffset file + wordBytes * words file)))))
 
 -- 5, "a packet field outside its stated range"; 3, "in a file, a packet's count above 4,096". "per packet 5, 3"
+abbrev pub refusalBy : Bool → Bool → ℕ
+refusalBy range few = cond range (cond few 0 3) 5
+
 abbrev pub packetRefusal : List ℕ → ℕ → ℕ
-packetRefusal file at = cond (inRange (packetOf file at)) (cond (leb (countOf file at) maxWords) 0 3) 5
+packetRefusal file at = refusalBy (inRange (packetOf file at)) (leb (countOf file at) maxWords)
 
 -- Of n packets from packet i on, the first refusal, or 0.
 unfoldable pub firstRefusal : List ℕ → ℕ → ℕ → ℕ

@@ -3,8 +3,8 @@
 ghost use mathlib.Core.Path.{_≡_};
 ghost use Prim.Native.Nat.{_+_, _≤_};
 ghost use lib.ListN.{length};
-ghost use Rattle.bench_file.specs.File.{packetBytes, packetPlace, packetOf, wordsBefore, misfit, packetRefusal, firstRefusal, checkOf};
-ghost use Rattle.bench_file.specs.Reader.{readerAt, packetFound, wordFound, nextOf};
+ghost use Rattle.bench_file.specs.File.{packetBytes, packetPlace, packetOf, wordsBefore, misfit, refusalBy, packetRefusal, firstRefusal, checkOf};
+ghost use Rattle.bench_file.specs.Reader.{readerAt, hasPacket, hasWord, pastPacket, pastWord, afterPacket, afterWord, NextPacketPost, NextWordPost, NextPost};
 
 mod little_endian;
 
@@ -85,27 +85,36 @@ fn sum_counts(file: &[u8], packets: usize) -> u64
     ensures { λ r. ⌜ r ≡ wordsBefore (now (file .entry)) packets ⌝ }
 {
     let mut sum: u64 = 0;
-    let mut i: usize = 0;
-    while i < packets {
-        sum = sum + get16(file, HEADER_BYTES + PACKET_BYTES * i + 22);
-        i = i + 1;
+    let mut packet: usize = 0;
+    while packet < packets {
+        sum = sum + get16(file, HEADER_BYTES + PACKET_BYTES * packet + 22);
+        packet = packet + 1;
     }
     sum
 }
 
-// Refusals 5 and 3 of the packet at a place, or 0.
-fn packet_refusal(file: &[u8], at: usize) -> u8
-    requires { ⌜ at + packetBytes ≤ length (now file) ⌝ }
-    ensures { λ r. ⌜ r ≡ packetRefusal (now (file .entry)) at ⌝ }
+// Refusal 5 before 3, or 0.
+fn refusal_by(in_range: bool, few: bool) -> u8
+    ensures { λ r. ⌜ r ≡ refusalBy in_range few ⌝ }
 {
-    if !cdp_running::in_range(load_packet(file, at)) {
+    if !in_range {
         return REFUSED_PACKET;
     }
-    if get16(file, at + 22) <= MAX_WORDS as u64 {
+    if few {
         0
     } else {
         REFUSED_FULL
     }
+}
+
+// The refusal of the packet at a place, or 0.
+fn packet_refusal(file: &[u8], at: usize) -> u8
+    requires { ⌜ at + packetBytes ≤ length (now file) ⌝ }
+    ensures { λ r. ⌜ r ≡ packetRefusal (now (file .entry)) at ⌝ }
+{
+    let in_range = cdp_running::in_range(load_packet(file, at));
+    let few = get16(file, at + 22) <= MAX_WORDS as u64;
+    refusal_by(in_range, few)
 }
 
 // The first of these refusals, or 0.
@@ -138,45 +147,81 @@ pub fn check(file: &[u8]) -> u8
     first_refusal(file, packets)
 }
 
-// A packet of the file, or the end where there is none.
-fn packet_at(file: &[u8], packet: usize) -> Found
-    ensures { λ r. ⌜ r ≡ packetFound (now (file .entry)) packet ⌝ }
+// Whether the header counts a packet and its bytes lie in the file.
+fn has_packet(file: &[u8], packet: usize) -> bool
+    ensures { λ r. ⌜ r ≡ hasPacket (now (file .entry)) packet ⌝ }
 {
     if file.len() < HEADER_BYTES {
-        return Found::End;
+        return false;
     }
     if get32(file, 0) as usize <= packet {
-        return Found::End;
+        return false;
     }
-    let at = HEADER_BYTES + PACKET_BYTES * packet;
-    if file.len() < at + PACKET_BYTES {
-        return Found::End;
+    HEADER_BYTES + PACKET_BYTES * packet + PACKET_BYTES <= file.len()
+}
+
+// Whether the header counts a word and its bytes lie in the file.
+fn has_word(file: &[u8], word: usize) -> bool
+    ensures { λ r. ⌜ r ≡ hasWord (now (file .entry)) word ⌝ }
+{
+    if file.len() < HEADER_BYTES {
+        return false;
     }
-    Found::Packet {
-        packet: load_packet(file, at),
-        words: get16(file, at + 22) as u16,
+    if get32(file, 4) as usize <= word {
+        return false;
+    }
+    let packets = get32(file, 0) as usize;
+    HEADER_BYTES + PACKET_BYTES * packets + Word::SIZE * word + Word::SIZE <= file.len()
+}
+
+// A packet of the file, or the end where there is none.
+fn packet_at(file: &[u8], packet: usize) -> Found
+    ensures { λ r. ⌜ NextPacketPost (now (file .entry)) packet r ⌝ }
+{
+    if has_packet(file, packet) {
+        let at = HEADER_BYTES + PACKET_BYTES * packet;
+        Found::Packet {
+            packet: load_packet(file, at),
+            words: get16(file, at + 22) as u16,
+        }
+    } else {
+        Found::End
     }
 }
 
 // A word of the file, or the end where there is none.
 fn word_at(file: &[u8], word: usize) -> Found
-    ensures { λ r. ⌜ r ≡ wordFound (now (file .entry)) word ⌝ }
+    ensures { λ r. ⌜ NextWordPost (now (file .entry)) word r ⌝ }
 {
-    if file.len() < HEADER_BYTES {
-        return Found::End;
+    if has_word(file, word) {
+        let packets = get32(file, 0) as usize;
+        Found::Word {
+            at: HEADER_BYTES + PACKET_BYTES * packets + Word::SIZE * word,
+        }
+    } else {
+        Found::End
     }
-    if get32(file, 4) as usize <= word {
-        return Found::End;
-    }
-    let packets = get32(file, 0) as usize;
-    let at = HEADER_BYTES + PACKET_BYTES * packets + Word::SIZE * word;
-    if file.len() < at + Word::SIZE {
-        return Found::End;
-    }
-    Found::Word { at: at }
 }
 
-// A reader at a place.
+// The cursor past a packet; where there is none it stays.
+fn past_packet(file: &[u8], packet: usize) -> usize
+    ensures { λ r. ⌜ r ≡ pastPacket (now (file .entry)) packet ⌝ }
+{
+    if has_packet(file, packet) {
+        packet + 1
+    } else {
+        packet
+    }
+}
+
+// The cursor past a word; where there is none it stays.
+fn past_word(file: &[u8], word: usize) -> usize
+    ensures { λ r. ⌜ r ≡ pastWord (now (file .entry)) word ⌝ }
+{
+    if has_word(file, word) { word + 1 } else { word }
+}
+
+// A reader at a place; at the start both cursors are 0.
 pub fn reader_at<'a>(bytes: &'a [u8], packet: usize, word: usize) -> FileReader<'a>
     ensures { λ r. ⌜ r ≡ readerAt (bytes .entry) packet word ⌝ }
 {
@@ -189,40 +234,76 @@ pub fn reader_at<'a>(bytes: &'a [u8], packet: usize, word: usize) -> FileReader<
 
 // The reader's next packet, or the end.
 pub fn next_packet<'a>(reader: FileReader<'a>) -> Found
-    ensures { λ r. ⌜ r ≡ packetFound (now (reader .entry .bytes)) (reader .entry .packet) ⌝ }
+    ensures { λ r. ⌜ NextPacketPost (now (reader .entry .bytes)) (reader .entry .packet) r ⌝ }
 {
     packet_at(reader.bytes, reader.packet)
 }
 
 // The reader's next word, or the end.
 pub fn next_word<'a>(reader: FileReader<'a>) -> Found
-    ensures { λ r. ⌜ r ≡ wordFound (now (reader .entry .bytes)) (reader .entry .word) ⌝ }
+    ensures { λ r. ⌜ NextWordPost (now (reader .entry .bytes)) (reader .entry .word) r ⌝ }
 {
     word_at(reader.bytes, reader.word)
 }
 
+// The reader past its next packet.
+pub fn after_packet<'a>(reader: FileReader<'a>) -> FileReader<'a>
+    ensures { λ r. ⌜ r ≡ afterPacket (reader .entry) ⌝ }
+{
+    FileReader {
+        bytes: reader.bytes,
+        packet: past_packet(reader.bytes, reader.packet),
+        word: reader.word,
+    }
+}
+
+// The reader past its next word.
+pub fn after_word<'a>(reader: FileReader<'a>) -> FileReader<'a>
+    ensures { λ r. ⌜ r ≡ afterWord (reader .entry) ⌝ }
+{
+    FileReader {
+        bytes: reader.bytes,
+        packet: reader.packet,
+        word: past_word(reader.bytes, reader.word),
+    }
+}
+
 // From a plain place to a reader and its next packet.
 fn packet_from(bytes: &[u8], packet: usize, word: usize) -> Found
-    ensures { λ r. ⌜ r ≡ packetFound (now (bytes .entry)) packet ⌝ }
+    ensures { λ r. ⌜ NextPacketPost (now (bytes .entry)) packet r ⌝ }
 {
     next_packet(reader_at(bytes, packet, word))
 }
 
 // From a plain place to a reader and its next word.
 fn word_from(bytes: &[u8], packet: usize, word: usize) -> Found
-    ensures { λ r. ⌜ r ≡ wordFound (now (bytes .entry)) word ⌝ }
+    ensures { λ r. ⌜ NextWordPost (now (bytes .entry)) word r ⌝ }
 {
     next_word(reader_at(bytes, packet, word))
 }
 
-// What comes next at a place, where so many words of the packet at hand are left: a word while any is, then the next packet, then the end.
-// The caller keeps the place: past a packet its words are left, past a word one less.
+// For a caller that holds the file itself and the place as numbers: what its reader gives next. A word while words of the packet at hand are left, then
+// the next packet, then the end.
 pub fn next(file: &[u8], packet: usize, word: usize, left: usize) -> Found
-    ensures { λ r. ⌜ r ≡ nextOf (now (file .entry)) packet word left ⌝ }
+    ensures { λ r. ⌜ NextPost (now (file .entry)) packet word left r ⌝ }
 {
     if left == 0 {
         packet_from(file, packet, word)
     } else {
         word_from(file, packet, word)
     }
+}
+
+// The packet cursor of such a caller's reader past its next packet.
+pub fn packet_after(bytes: &[u8], packet: usize, word: usize) -> usize
+    ensures { λ r. ⌜ r ≡ pastPacket (now (bytes .entry)) packet ⌝ }
+{
+    after_packet(reader_at(bytes, packet, word)).packet
+}
+
+// The word cursor of such a caller's reader past its next word.
+pub fn word_after(bytes: &[u8], packet: usize, word: usize) -> usize
+    ensures { λ r. ⌜ r ≡ pastWord (now (bytes .entry)) word ⌝ }
+{
+    after_word(reader_at(bytes, packet, word)).word
 }

@@ -11,10 +11,10 @@ use Rattle.bench_file.proofs.sum_counts.Statement.{statement}
 use Rattle.bench_file.proofs.sum_counts.Tie as tie
 
 abbrev Inv-loop : tie.InvT-loop
-Inv-loop file packets sum₀ i₀ sum i = (i ≤ packets) × (sum ≡ wordsBefore file i) × (sum ≤ 65535 * i)
+Inv-loop file packets sum₀ packet₀ sum packet = (packet ≤ packets) × (sum ≡ wordsBefore file packet) × (sum ≤ 65535 * packet)
 
 abbrev μ-loop : tie.MeasureT-loop
-μ-loop file packets sum₀ i₀ sum i = packets - i
+μ-loop file packets sum₀ packet₀ sum packet = packets - packet
 
 loop-holds : tie.Need-loop-holds Inv-loop μ-loop
 unfolding wordsBefore
@@ -22,12 +22,12 @@ loop-holds c = search needs
 
 loop-again : tie.Need-loop-again Inv-loop μ-loop
 loop-again c =
-    let more = one-more (now (c .before .before .before .before .args .file)) (c .before .before .loop .i) in
+    let more = one-more (now (c .before .before .before .before .args .file)) (c .before .before .loop .packet) in
     (omega arith, omega (arith, c .get16 .ensures .0), omega (arith, c .get16 .ensures .1))
 
 returns : tie.Need-returns Inv-loop μ-loop
 returns c =
-    let all : c .before .loop .i ≡ c .before .before .before .args .packets = omega arith in
+    let all : c .before .loop .packet ≡ c .before .before .before .args .packets = omega arith in
     c .before .loop .inv .1 ∙ ap (wordsBefore (now (c .before .before .before .args .file))) all
 
 pub sum-counts-spec : {M : Type 1} → statement M
