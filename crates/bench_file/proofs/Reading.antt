@@ -19,9 +19,13 @@ use Rattle.cdp_running.specs.Tracker.{inRange, maxWords}
 use Rattle.bench_file.specs.declared.Found.the-variants as F
 use Rattle.bench_file.specs.File.{packets, words, packetPlace, packetAt, countAt, wordPlace, bytesAt, wordsBefore, misfit, packetRefusal, firstRefusal, checkOf}
 use Rattle.bench_file.specs.Items.{Item, packet, word, wordItems, packetItems, items, itemsFrom}
-use Rattle.bench_file.specs.Reader.{readerAt, hasPacket, hasWord, pastPacket, pastWord, nextOf, Gives, end, packet-first, then-word, Sound, Place}
+use Rattle.bench_file.specs.Reader.{readerAt, hasPacket, hasWord, wordFound, pastPacket, pastWord, nextOf, Gives, end, packet-first, then-word, Sound, Place}
 use Rattle.bench_file.proofs.Checking.{fitting, one-more}
 use Rattle.bench_file.proofs.Finding.{packet-in, packet-past, packet-found, packet-end, past-packet, word-in, word-found, past-word}
+
+-- While words are left, a word is asked for.
+pub asks-word : (file : List ℕ) (i n left : ℕ) → nextOf file i n (suc left) ≡ wordFound file n
+asks-word file i n left = simp (ne-eqb (suc left) 0 (λ q. omega arith))
 
 -- What a packet and a word that the reader gives mean for what is to come, at a place that it comes to.
 pub record PacketGiven (file : List ℕ) (i n left : ℕ) (p : Packet) (count : ℕ) : Type 0 where
@@ -33,6 +37,7 @@ pub record PacketGiven (file : List ℕ) (i n left : ℕ) (p : Packet) (count : 
 pub record WordGiven (file : List ℕ) (i n left at : ℕ) : Type 0 where
   pub one-left : 1 ≤ left
   pub inside : at + wordBytes ≤ length file
+  pub one-on : pastWord file n ≡ n + 1
   pub next : Place file i (pastWord file n) (left - 1)
   pub comes : itemsFrom file i n left ≡ word at (bytesAt file at) ∷ itemsFrom file i (pastWord file n) (left - 1)
 
@@ -103,7 +108,7 @@ module _ {file : List ℕ} (s : Sound file) where
       packet-in file i h (omega arith)
 
   next-word : (i n left : ℕ) → n < words file → nextOf file i n (suc left) ≡ F.Word (wordPlace file n)
-  next-word i n left h = simp (ne-eqb (suc left) 0 (λ q. omega arith)) (word-found file n (word-here n h))
+  next-word i n left h = asks-word file i n left ∙ word-found file n (word-here n h)
 
   next-packet : (i n : ℕ) → i < packets file → nextOf file i n 0 ≡ F.Packet (packetAt file i) (countAt file i)
   next-packet i n h = packet-found file i (packet-here i h)
@@ -138,6 +143,7 @@ module _ {file : List ℕ} (s : Sound file) where
       record {
         one-left = omega arith;
         inside = s .inside n (omega arith);
+        one-on = past-word file n (word-here n (omega arith));
         next = rw (past-word file n (word-here n (omega arith))) (record { within = p .within; here = omega arith });
         comes = rw (past-word file n (word-here n (omega arith)), less, add-one n, same);
       }

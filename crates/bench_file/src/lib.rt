@@ -100,11 +100,7 @@ fn refusal_by(in_range: bool, few: bool) -> u8
     if !in_range {
         return REFUSED_PACKET;
     }
-    if few {
-        0
-    } else {
-        REFUSED_FULL
-    }
+    if few { 0 } else { REFUSED_FULL }
 }
 
 // The refusal of the packet at a place, or 0.

@@ -95,7 +95,7 @@ module _ (file : List ℕ) where
       let given = word-given (sound file (reads .checked)) (reads .place) e in
       let kept = good-word (r .tracker) (bytesAt file at) g in
       record {
-        good = record { tracker = kept .0; going = λ _. record { checked = reads .checked; place = given .next; count = omega arith } };
+        good = record { tracker = kept .0; going = λ _. record { checked = reads .checked; place = given .next; count = rw (given .one-on) (omega arith) } };
         rest = simp (given .comes, lines-append, length-append, append-assoc, add-assoc);
         steps = omega (arith, ap length (given .comes));
       }

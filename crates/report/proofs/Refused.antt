@@ -1,12 +1,12 @@
 -- Over a file that is not refused no packet call and no word call is.
 -- Assumes nothing.
 use Prim.Native.Nat.{ℕ, suc, _+_, _-_, _≤_}
-use mathlib.Core.Path.{_≡_, refl, sym, ap, subst}
+use mathlib.Core.Path.{_≡_, refl, sym, ap, subst, _∙_}
 use mathlib.Core.Bool.{true}
 use mathlib.Core.List.{List}
-use native.Mathlib.Numerals.{add-one}
 use native.Mathlib.Omega.{arith}
 use borrow.Author.Tests.{le-ltb}
+use denote.Ref.{RefT, now}
 use lib.ListN.{length, drop, length-drop}
 use lib.Seq.{length-take-le}
 use Rattle.words.specs.Word.{wordOf}
@@ -19,8 +19,8 @@ use Rattle.cdp_running.proofs.Outcome.{admitted-taken}
 use Rattle.cdp_running.proofs.Fine.{at-most-six}
 use Rattle.bench_file.specs.File.{bytesAt, checkOf}
 use Rattle.bench_file.specs.Items.{Item, items}
-use Rattle.bench_file.specs.Reader.{Gives, end, packet-first, then-word, Sound, Place}
-use Rattle.bench_file.proofs.Reading.{sound, packet-given, word-given, at-start, reader-gives}
+use Rattle.bench_file.specs.Reader.{readerAt, Gives, end, packet-first, then-word, Sound, Place}
+use Rattle.bench_file.proofs.Reading.{sound, asks-word, packet-given, word-given, at-start, reader-gives}
 use Rattle.report.specs.File.{settings, AllAccepted}
 
 -- A tracker that still takes so many words of its packet.
@@ -43,24 +43,29 @@ word-taken t left bytes h ten =
     let next : answerOf t (wordCall t bytes 6) .tracker ≡ afterWord t (takenAs t (wordOf bytes)) (wordOf bytes) = ap (λ (o : Outcome). answerOf t o .tracker) e in
     (e, subst (λ (u : Tracker). Takes u left) (sym next) (record { accepted = λ _. have; room = omega arith }))
 
-module _ {file : List ℕ} (s : Sound file) where
-  ten : (at : ℕ) → at + 10 ≤ length file → length (bytesAt file at) ≡ 10
-  ten at h = length-take-le 10 (drop at file) (simp length-drop (omega arith))
+module _ (bytes : RefT (List ℕ)) (s : Sound (now bytes)) where
+  ten : (at : ℕ) → at + 10 ≤ length (now bytes) → length (bytesAt (now bytes) at) ≡ 10
+  ten at h = length-take-le 10 (drop at (now bytes)) (simp length-drop (omega arith))
 
-  all-accepted : {i n left : ℕ} {l : List Item} → Gives file i n left l → Place file i n left → (t : Tracker) → Takes t left → AllAccepted t l
+  all-accepted : {i n left : ℕ} {l : List Item} → Gives (readerAt bytes i n) left l → Place (now bytes) i n left → (t : Tracker) → Takes t left → AllAccepted t l
   unfolding AllAccepted
   all-accepted (end e) place t h = tt
-  all-accepted (packet-first {i = i} {n = n} {count = count} {p = p} e rest) place t h =
+  all-accepted (packet-first {p = p} {count = count} e rest) place t h =
       let given = packet-given s place e in
       let a = packet-accepted t p (given .in-range) in
       let next : Takes (packetCall t p .tracker) count = subst (λ (u : Tracker). Takes u count) (sym (a .1)) (record { accepted = λ _. refl; room = omega (arith, given .few) }) in
-      (a .0, all-accepted rest (subst (λ (j : ℕ). Place file j n count) (add-one i) (given .next)) (packetCall t p .tracker) next)
-  all-accepted (then-word {i = i} {n = n} {left = left} {at = at} e rest) place t h =
-      let given = word-given s place e in
+      (a .0, all-accepted rest (given .next) (packetCall t p .tracker) next)
+  all-accepted {i} {n} (then-word {left = left} {at = at} e rest) place t h =
+      let given = word-given s place (asks-word (now bytes) i n left ∙ e) in
       let less : suc left - 1 ≡ left = omega arith in
-      let w = word-taken t left (bytesAt file at) h (ten at (given .inside)) in
-      (w .0, all-accepted rest (rw (less, add-one n) at (given .next)) (answerOf t (wordCall t (bytesAt file at) 6) .tracker) (w .1))
+      let w = word-taken t left (bytesAt (now bytes) at) h (ten at (given .inside)) in
+      (w .0, all-accepted rest (rw less at (given .next)) (answerOf t (wordCall t (bytesAt (now bytes) at) 6) .tracker) (w .1))
+
+-- Of every list of bytes there is a reader.
+held : List ℕ → RefT (List ℕ)
+held file = record { ptr = (0, 0); name = 0; now = file }
 
 pub never-refused : (file : List ℕ) → checkOf file ≡ 0 → AllAccepted (startOf settings) (items file)
+unfolding held
 never-refused file e =
-    all-accepted (sound file e) (reader-gives file e) (at-start file) (startOf settings) (record { accepted = λ h. absurd (omega arith); room = omega arith })
+    all-accepted (held file) (sound file e) (reader-gives (held file) e) (at-start file) (startOf settings) (record { accepted = λ h. absurd (omega arith); room = omega arith })

@@ -20,7 +20,7 @@ use Rattle.cdp_running.specs.Word.{Outcome, taken, refused, wordCall, answerOf,
 use Rattle.bench_file.specs.declared.Found.the-variants as F
 use Rattle.bench_file.specs.File.{checkOf, bytesAt}
 use Rattle.bench_file.specs.declared.Found.{Found}
-use Rattle.bench_file.specs.Reader.{nextOf}
+use Rattle.bench_file.specs.Reader.{pastWord, nextOf}
 use Rattle.bench_file.proofs.Reading.{at-start, sound, reached, word-given}
 use Rattle.report.specs.declared.Stage.{Stage}
 use Rattle.report.specs.declared.Stage.the-variants as S
@@ -83,18 +83,19 @@ module _ (t : Tracker) (bytes : List ℕ) {zeros after : List ℕ} {a : WordAnsw
   told-stand = rw (told-is, stand) (records-written (recordsIn (wordCall t bytes 6)) _)
 
 -- A word: its lines are printed.
-pub word-printed : (file : List ℕ) (r : Report) (at : ℕ) {zeros after d d′ : List ℕ} {a : WordAnswer} {given n : ℕ}
+pub word-printed : (file : List ℕ) (r : Report) (at : ℕ) {zeros after d d′ : List ℕ} {a : WordAnswer} {given n on : ℕ}
     → WordPost (r .tracker) (bytesAt file at) zeros a after
     → length zeros ≡ 24
+    → on ≡ pastWord file (r .word)
     → given ≡ recordsTold (a .told)
     → Puts (lines (recordsAt given after)) d n d′
-    → Prints (itemStep file r (F.Word at)) d (record { report = record { stage = S.Items; tracker = a .tracker; packet = r .packet; word = r .word + 1; left = r .left - 1; count = r .count + given }; n = n }) d′
-word-printed file r at {after = after} {given = given} w z g p =
+    → Prints (itemStep file r (F.Word at)) d (record { report = record { stage = S.Items; tracker = a .tracker; packet = r .packet; word = on; left = r .left - 1; count = r .count + given }; n = n }) d′
+word-printed file r at {after = after} {given = given} w z o g p =
     let t = r .tracker in
     let bytes = bytesAt file at in
     let stand : recordsAt given after ≡ recordsIn (wordCall t bytes 6) = rw g (told-stand t bytes w z) in
     record {
-      answer = rw (p .count, stand, g, told-is t bytes w z, answered t bytes w z);
+      answer = rw (p .count, stand, o, g, told-is t bytes w z, answered t bytes w z);
       buffer-is = p .buffer-is ∙ rw stand;
     }
 
@@ -107,11 +108,6 @@ as-word file at w =
 
 -- What the reader found, and what is to be counted on there.
 module _ {file : List ℕ} {r : Report} (g : GoodReading file r) where
-  pub packet-low : r .packet ≤ 2 ^ 32
-  packet-low =
-      let s = sound file (g .checked) in
-      omega arith
-
   pub good-word-at : {x : Found} {at : ℕ} → x ≡ nextOf file (r .packet) (r .word) (r .left) → x ≡ F.Word at → GoodWord file r at
   good-word-at {x} {at} p q =
       let s = sound file (g .checked) in
@@ -120,7 +116,6 @@ module _ {file : List ℕ} {r : Report} (g : GoodReading file r) where
       record {
         inside = given .inside;
         one-left = given .one-left;
-        word-low = omega arith;
         count-low = omega arith;
       }
 

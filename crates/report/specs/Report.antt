@@ -15,7 +15,7 @@ use Rattle.bench_file.specs.declared.Found.{Found}
 use Rattle.bench_file.specs.declared.Found.the-variants as F
 use Rattle.bench_file.specs.File.{bytesAt, checkOf}
 use Rattle.bench_file.specs.Items.{Item, packet, word, itemsFrom}
-use Rattle.bench_file.specs.Reader.{nextOf, Place}
+use Rattle.bench_file.specs.Reader.{pastPacket, pastWord, nextOf, Place}
 use Rattle.report.specs.declared.Stage.{Stage}
 use Rattle.report.specs.declared.Stage.the-variants as S
 use Rattle.report.specs.declared.Report.{Report}
@@ -51,7 +51,7 @@ abbrev pub atStage : Stage → Report → Report
 atStage stage r =
     record { stage = stage; tracker = r .tracker; packet = r .packet; word = r .word; left = r .left; count = r .count }
 
--- A packet prints nothing. A word prints the lines of its records. At the end stands the number of all records.
+-- The reader goes on past a packet or a word. A packet prints nothing. A word prints the lines of its records. At the end stands the number of all records.
 abbrev pub itemStep : List ℕ → Report → Found → Printed
 itemStep file r (F.Packet p words) =
     record {
@@ -59,7 +59,7 @@ itemStep file r (F.Packet p words) =
           record {
             stage = S.Items;
             tracker = trackerAfter (r .tracker) (packet p words);
-            packet = r .packet + 1;
+            packet = pastPacket file (r .packet);
             word = r .word;
             left = words;
             count = r .count;
@@ -74,7 +74,7 @@ itemStep file r (F.Word at) =
             stage = S.Items;
             tracker = trackerAfter (r .tracker) (word at (bytesAt file at));
             packet = r .packet;
-            word = r .word + 1;
+            word = pastWord file (r .word);
             left = r .left - 1;
             count = r .count + length records;
           };
@@ -140,7 +140,6 @@ pub record GoodReport (file : List ℕ) (r : Report) : Type 0 where
 pub record GoodWord (file : List ℕ) (r : Report) (at : ℕ) : Type 0 where
   pub inside : at + wordBytes ≤ length file
   pub one-left : 1 ≤ r .left
-  pub word-low : r .word ≤ 2 ^ 32
   pub count-low : r .count ≤ 2 ^ 32
 
 -- What is told of a text: the report after it, and how many bytes stand at the front of the buffer, whose rest stays.

@@ -1,7 +1,6 @@
 // What benchcheck prints of a bench file, step by step into lent buffers. Document 01, "Bench file".
 ghost use mathlib.Core.Path.{_≡_};
-ghost use mathlib.Core.List.{[]};
-ghost use Prim.Native.Nat.{_≤_, _^_};
+ghost use Prim.Native.Nat.{_≤_};
 ghost use lib.ListN.{length};
 ghost use Rattle.cdp_running.specs.Tracker.{Good};
 ghost use Rattle.report.specs.Text.{mostPrinted};
@@ -32,7 +31,7 @@ pub enum Stage {
     Done,
 }
 
-// A report on the way: the tracker and the place in the file, and the records so far.
+// A report on the way: the tracker, the place of the reader in the file and the words that are left of the packet at hand, and the records so far.
 pub struct Report {
     pub stage: Stage,
     pub tracker: Tracker,
@@ -101,10 +100,9 @@ fn records_told(told: Told) -> u64
 }
 
 // A packet: nothing is printed, and its words come next.
-fn packet_step(r: Report, packet: Packet, words: u16) -> Filled
+fn packet_step(r: Report, file: &[u8], packet: Packet, words: u16) -> Filled
     requires { ⌜ Good (r .tracker) ⌝ }
-    requires { ⌜ r .packet ≤ 2 ^ 32 ⌝ }
-    ensures { λ p. ⌜ p ≡ filledOf (itemStep [] r (F.Packet packet words)) ⌝ }
+    ensures { λ p. ⌜ p ≡ filledOf (itemStep (now (file .entry)) r (F.Packet packet words)) ⌝ }
 {
     let tracker = r.tracker;
     let answer = tracker.packet(packet);
@@ -113,7 +111,7 @@ fn packet_step(r: Report, packet: Packet, words: u16) -> Filled
         report: Report {
             stage: Stage::Items,
             tracker: next,
-            packet: r.packet + 1,
+            packet: bench_file::packet_after(file, r.packet, r.word),
             word: r.word,
             left: words as usize,
             count: r.count,
@@ -142,7 +140,7 @@ fn word_step(r: Report, file: &[u8], at: usize, out: &mut [u8]) -> Filled
             stage: Stage::Items,
             tracker: next,
             packet: r.packet,
-            word: r.word + 1,
+            word: bench_file::word_after(file, r.packet, r.word),
             left: r.left - 1,
             count: r.count + given,
         },
@@ -158,7 +156,7 @@ fn item_step(r: Report, file: &[u8], out: &mut [u8]) -> Filled
     ensures { λ p. ⌜ Prints (itemStep (now (file .entry)) r (nextOf (now (file .entry)) (r .packet) (r .word) (r .left))) (now (out .entry)) p (now (out .exit)) ⌝ }
 {
     match bench_file::next(file, r.packet, r.word, r.left) {
-        Found::Packet { packet, words } => packet_step(r, packet, words),
+        Found::Packet { packet, words } => packet_step(r, file, packet, words),
         Found::Word { at } => word_step(r, file, at, out),
         Found::End => Filled {
             n: text::put_count(out, b"records ", r.count),

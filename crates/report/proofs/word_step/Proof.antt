@@ -14,9 +14,6 @@ few c = omega (arith, c .records-told .ensures, told-few (c .before .before .bef
 put-lines-requires : tie.Need-put-lines-requires
 put-lines-requires c κs = (omega (arith, few (c .before .before), c .before .before .before .before .before .before .before .before .before .before .before .pre .1 .1), omega (arith, few (c .before .before), c .before .before .before .before .before .word .kept .1 .1 .0))
 
-add-t14 : tie.Need-add-t14
-add-t14 c = omega (arith, c .before .before .before .before .before .before .before .before .before .before .before .before .before .before .before .pre .1 .0 .word-low)
-
 sub-t24 : tie.Need-sub-t24
 sub-t24 c = omega (arith, c .before .before .before .before .before .before .before .before .before .before .before .before .before .before .before .before .pre .1 .0 .one-left)
 
@@ -24,7 +21,7 @@ add-t25 : tie.Need-add-t25
 add-t25 c = omega (arith, c .before .before .before .before .before .before .before .before .before .before .before .before .before .before .before .before .before .pre .1 .0 .count-low, few (c .before .before .before .before .before .before .before .before))
 
 returns : tie.Need-returns
-returns c = word-printed (now (c .before .before .before .before .before .before .before .before .before .before .before .before .before .before .before .before .before .args .file)) (c .before .before .before .before .before .before .before .before .before .before .before .before .before .before .before .before .before .args .r) (c .before .before .before .before .before .before .before .before .before .before .before .before .before .before .before .before .before .args .at) (as-word (now (c .before .before .before .before .before .before .before .before .before .before .before .before .before .before .before .before .before .args .file)) (c .before .before .before .before .before .before .before .before .before .before .before .before .before .before .before .before .before .args .at) (c .before .before .before .before .before .before .before .before .before .before .before .word .ensures)) (search needs) (c .before .before .before .before .before .before .before .before .records-told .ensures) (c .before .before .before .before .before .put-lines .ensures)
+returns c = word-printed (now (c .before .before .before .before .before .before .before .before .before .before .before .before .before .before .before .before .before .args .file)) (c .before .before .before .before .before .before .before .before .before .before .before .before .before .before .before .before .before .args .r) (c .before .before .before .before .before .before .before .before .before .before .before .before .before .before .before .before .before .args .at) (as-word (now (c .before .before .before .before .before .before .before .before .before .before .before .before .before .before .before .before .before .args .file)) (c .before .before .before .before .before .before .before .before .before .before .before .before .before .before .before .before .before .args .at) (c .before .before .before .before .before .before .before .before .before .before .before .word .ensures)) (search needs) (c .before .before .word-after .ensures) (c .before .before .before .before .before .before .before .before .records-told .ensures) (c .before .before .before .before .before .put-lines .ensures)
 
 pub word-step-spec : {M : Type 1} → statement M
-word-step-spec = tie.close (tie.spec (λ c. search needs) (λ c. search needs) (λ c. search needs) (λ c. search needs) (λ c. search needs) (λ c. search needs) (λ c. search needs) (λ c. search needs) put-lines-requires add-t14 sub-t24 add-t25 (λ c. search needs) returns)
+word-step-spec = tie.close (tie.spec (λ c. search needs) (λ c. search needs) (λ c. search needs) (λ c. search needs) (λ c. search needs) (λ c. search needs) (λ c. search needs) (λ c. search needs) put-lines-requires (λ c. search needs) sub-t24 add-t25 (λ c. search needs) returns)
