@@ -97,10 +97,11 @@ fn sum_counts(file: &[u8], packets: usize) -> u64
 fn refusal_by(in_range: bool, few: bool) -> u8
     ensures { λ r. ⌜ r ≡ refusalBy in_range few ⌝ }
 {
-    if !in_range {
-        return REFUSED_PACKET;
+    if in_range {
+        if few { 0 } else { REFUSED_FULL }
+    } else {
+        REFUSED_PACKET
     }
-    if few { 0 } else { REFUSED_FULL }
 }
 
 // The refusal of the packet at a place, or 0.
