@@ -17,7 +17,7 @@ def read(path):
 
 def functions(text):
     """The public functions of a source: name, parameters, whether it has a result, and its contract's `ensures`."""
-    for m in re.finditer(r'^ *pub (?:extern "C" )?fn (\w+)\(', text, re.M):
+    for m in re.finditer(r'^ *pub (?:extern "C" )?fn (\w+)(?:<[^>]*>)?\(', text, re.M):
         deep, at = 1, m.end()
         while deep:
             deep += {'(': 1, ')': -1}.get(text[at], 0)
