@@ -23,8 +23,6 @@ case $#${1:-} in
 esac
 rust=${BUILD_DIR:+$(absolute "$BUILD_DIR")}
 cd "$(dirname "$0")/.."
-kit='' tools='' # kit_find sets them
-# shellcheck source=tools/kit.sh disable=SC1091 # a run of shellcheck without -x reads one file alone
 . tools/kit.sh
 cc=${CC:-cc} cxx=${CXX:-c++} # with flags, where they have any
 done=0 out=0 failed=0 work=''
@@ -136,20 +134,13 @@ example_rust() {
     rustc -O --edition 2021 -D warnings examples/box.rs -L "$work" -l static=khandzorul -o "$work/box_rust"
     run_examples "$work/box_rust"
 }
-# On a machine that is no x86-64: the archive that is shipped, in x86-64 programs, through the kit's emulator. There are no C headers for
-# x86-64 here, so the C text goes through this machine's preprocessor first; both have the same types.
-x86() { # OUT FILE.c
-    $cc -E -P -I include "$2" >"$work/x86.i"
-    "$tools/bin/clang" --target=x86_64-unknown-linux-gnu -O2 -fPIC -w -x cpp-output -c "$work/x86.i" -o "$work/x86.o"
-    "$kit/on/$(uname -m)/bin/rattle-link" --target x86_64-unknown-linux-gnu --toolchain "$tools" -o "$1" "$work/x86.o" \
-        target/staticlib/libkhandzorul.a 2>"$work/link" || { cat "$work/link"; exit 1; }
-}
+# On a machine that is no x86-64: the archive that is shipped, in x86-64 programs, through the kit's emulator.
 shipped() {
-    x86 "$work/x86" tests/boundary.c
+    kit_x86 "$work/x86" target/staticlib/libkhandzorul.a tests/boundary.c
     kit_start "$work/x86"
 }
 shipped_driver() {
-    x86 "$work/x86" tests/oracle/khz_driver.c
+    kit_x86 "$work/x86" target/staticlib/libkhandzorul.a tests/oracle/khz_driver.c
     kit_start "$work/x86" -c <"$work/oracle/calls.txt" >"$work/x86.txt"
     cmp "$work/x86.txt" "$work/oracle/ours.txt"
 }

@@ -6,7 +6,6 @@
 # A line for each trial that fails; the last line says how many there were. Exit status 1 if one failed.
 set -eu
 cd "$(dirname "$0")/.."
-# shellcheck source=tools/kit.sh disable=SC1091 # a run of shellcheck without -x reads one file alone
 . tools/kit.sh
 [ -x target/bin/fields ] || { echo "fields: 0 trials, 1 failed: target/bin/fields is not there (rt check fields)"; exit 1; }
 work=$(mktemp -d "${TMPDIR:-/tmp}/khandzorul-fields.XXXXXX")
@@ -17,7 +16,7 @@ tried=0 failed=0
 try() { # WHAT: on the bytes of $work/in, against the lines of standard input
     tried=$((tried + 1))
     cat >"$work/must"
-    kit_run fields <"$work/in" >"$work/out" || echo "exit status $?" >>"$work/out"
+    kit_start target/bin/fields <"$work/in" >"$work/out" || echo "exit status $?" >>"$work/out"
     cmp -s "$work/out" "$work/must" || { failed=$((failed + 1)); echo "fields: $1: printed"; tail -n 5 "$work/out"; }
 }
 hex() { printf '%s\n' "$*" | sh tools/hex.sh >"$work/in"; }

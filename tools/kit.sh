@@ -55,12 +55,14 @@ kit_x86() ( # OUT ARCHIVE FILE.c..: leaves OUT.i and objects beside OUT
     out=$1 library=$2 objects=
     shift 2
     for f; do
-        "${CC:-cc}" -E -P -DFOR_X86_64 -I include "$f" >"$out.i"
+        # shellcheck disable=SC2086 # CC may carry flags
+        ${CC:-cc} -E -P -DFOR_X86_64 -I include "$f" >"$out.i"
         "$tools/bin/clang" --target=x86_64-unknown-linux-gnu -O2 -fPIC -w -x cpp-output -c "$out.i" -o "$out.$(basename "$f" .c).o"
         objects="$objects $out.$(basename "$f" .c).o"
     done
     # shellcheck disable=SC2086 # paths of ours, in a temporary folder
-    "$kit/on/$(uname -m)/bin/rattle-link" --target x86_64-unknown-linux-gnu --toolchain "$tools" -o "$out" $objects "$library" 2>/dev/null
+    "$kit/on/$(uname -m)/bin/rattle-link" --target x86_64-unknown-linux-gnu --toolchain "$tools" -o "$out" $objects "$library" 2>"$out.link" ||
+        { cat "$out.link" >&2; exit 1; }
 )
 
 # The folder target/ is one for all that run in a checkout, and two provers in it break each other. So each of them holds this lock, to the
