@@ -3,10 +3,10 @@
 use Prim.Native.Nat.{ℕ, _≤_, _<_, _^_}
 use mathlib.Core.Path.{_≡_, refl, sym, ap, subst, _∙_}
 use mathlib.Core.Bool.{Bool, true, false, cond, _&&_, _||_}
-use mathlib.Core.List.{List, []}
-use lib.Dec.{leb, ltb, eqb}
+use mathlib.Core.List.{List}
+use lib.Dec.{eqb}
 use lib.ListN.{length}
-use borrow.Author.Tests.{lt-ltb, le-leb, lt-leb, eq-eqb, ne-eqb}
+use borrow.Author.Tests.{le-leb, lt-leb}
 use Rattle.words.specs.declared.Word.{Word}
 use Rattle.words.specs.declared.FromBuf.{FromBuf}
 use Rattle.words.specs.declared.FromBuf.the-variants as B
@@ -17,24 +17,16 @@ use Rattle.records.specs.declared.Written.{Written}
 use Rattle.records.specs.declared.Written.the-variants.{Records, NoRoom}
 use Rattle.records.specs.Records.{given, flat, room, over, exceed, padded, WritePost}
 use Rattle.records.proofs.Given.{given-padded}
-use Rattle.validators.specs.declared.Settings.{Settings}
 use Rattle.validators.specs.declared.Packet.{Packet}
 use Rattle.cdp_running.specs.declared.Tracker.{Tracker}
-use Rattle.cdp_running.specs.declared.PacketAnswer.{PacketAnswer}
 use Rattle.cdp_running.specs.declared.WordAnswer.{WordAnswer}
-use Rattle.cdp_running.specs.Tracker.{Good, settingsOf, inRange, maxPosition, maxWords, packetCall, acceptOf, PacketPost}
-use Rattle.cdp_running.specs.Word.{takenAs, positionNow, rowsOf, recordsOf, Outcome, taken, refused, takenOf, takenAnswer, wordCall, answerOf, recordsIn, WordPost}
+use Rattle.cdp_running.specs.Tracker.{Good, inRange, maxWords, packetCall, acceptOf, PacketPost}
+use Rattle.cdp_running.specs.Word.{takenAs, positionNow, rowsOf, recordsOf, Outcome, refused, takenOf, takenAnswer, wordCall, answerOf, recordsIn, WordPost}
 use Rattle.cdp_running.proofs.Good.{good-accept, good-next}
 
 -- A tracker that is a good one is good.
 pub also-good : {r t : Tracker} → r ≡ t → Good t → (r ≡ t) × Good r
 also-good e g = (e, rw e g)
-
--- Settings with a period are kept as they are.
-pub periodic-kept : (s : Settings) → s .periodic ≡ true → s ≡ settingsOf s
-periodic-kept s e =
-    let same : s .period ≡ cond (s .periodic) (s .period) 0 = simp e in
-    λ i. record { running = s .running; frames = s .frames; periodic = s .periodic; period = same i }
 
 pub packet-refused : (t : Tracker) (p : Packet) → Good t → inRange p ≡ false → PacketPost t p (record { tracker = t; refusal = 5 })
 unfolding packetCall

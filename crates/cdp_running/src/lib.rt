@@ -149,35 +149,30 @@ fn position(packet: Packet, taken: u16) -> u64
 fn rows_of(t: Tracker, a: Advanced, word: Word) -> [Row; MOST]
     ensures { λ r. ⌜ r ≡ padded (rowsOf t a word) ⌝ }
 {
-    let settings = t.settings;
-    let packet = t.packet;
-    let previous = t.tdh;
-    let earlier = t.internal;
-    let ihw = t.ihw;
-    let cdw = t.cdw;
-    let frame = t.frame;
     let kind = a.word;
     match kind {
-        ItsPayloadWord::Ihw => validators::ihw::check_at_initial_ihw(settings, packet, word),
+        ItsPayloadWord::Ihw => { validators::ihw::check_at_initial_ihw(t.settings, t.packet, word) }
         ItsPayloadWord::IhwContinuation => validators::ihw::check_continuation(word),
         ItsPayloadWord::Tdh => {
-            tdh_validator::check_tdh_no_continuation(settings, packet, earlier, word)
+            tdh_validator::check_tdh_no_continuation(t.settings, t.packet, t.internal, word)
         }
         ItsPayloadWord::TdhAfterPacketDone => {
-            tdh_validator::check_after_tdt_packet_done_true(settings, previous, earlier, word)
+            tdh_validator::check_after_tdt_packet_done_true(t.settings, t.tdh, t.internal, word)
         }
         ItsPayloadWord::TdhContinuation => {
-            tdh_validator::check_continuation(settings, previous, word)
+            tdh_validator::check_continuation(t.settings, t.tdh, word)
         }
         ItsPayloadWord::DataWord => {
-            validators::data_words::check(settings, t.seen, ihw.lanes, cdw, a.guessed, word)
+            let lanes = t.ihw.lanes;
+            validators::data_words::check(t.settings, t.seen, lanes, t.cdw, a.guessed, word)
         }
         ItsPayloadWord::Cdw => {
-            validators::data_words::check(settings, t.seen, ihw.lanes, cdw, a.guessed, word)
+            let lanes = t.ihw.lanes;
+            validators::data_words::check(t.settings, t.seen, lanes, t.cdw, a.guessed, word)
         }
-        ItsPayloadWord::Tdt => validators::tdt::check(settings, frame.live, word),
+        ItsPayloadWord::Tdt => validators::tdt::check(t.settings, t.frame.live, word),
         ItsPayloadWord::Ddw0 => {
-            validators::ddw::check_at_ddw0(settings, packet, a.guessed, word)
+            validators::ddw::check_at_ddw0(t.settings, t.packet, a.guessed, word)
         }
     }
 }
@@ -186,12 +181,15 @@ fn rows_of(t: Tracker, a: Advanced, word: Word) -> [Row; MOST]
 fn fixed(settings: Settings) -> Settings
     ensures { λ r. ⌜ r ≡ settingsOf settings ⌝ }
 {
-    if settings.periodic {
-        settings
-    } else {
-        let mut kept = settings;
-        kept.period = 0;
-        kept
+    Settings {
+        running: settings.running,
+        frames: settings.frames,
+        periodic: settings.periodic,
+        period: if settings.periodic {
+            settings.period
+        } else {
+            0
+        },
     }
 }
 
@@ -284,10 +282,8 @@ impl Tracker {
         requires { ⌜ Good self ⌝ }
         ensures { λ r. ⌜ (r ≡ resetOf self) × Good r ⌝ }
     {
-        let fsm = self.fsm;
-        let start = fsm.reset_fsm();
         let mut t = self;
-        t.fsm = start;
+        t.fsm = self.fsm.reset_fsm();
         t
     }
 
@@ -305,8 +301,7 @@ impl Tracker {
         if self.count >= MAX_WORDS {
             return refused(self, REFUSED_FULL);
         }
-        let fsm = self.fsm;
-        let a = fsm.advance(word);
+        let a = self.fsm.advance(word);
         let rows = rows_of(self, a, word);
         let here = self.here();
         let Written::Records(n) = records::write(out, here, rows) else {

@@ -185,7 +185,6 @@ pub(crate) fn taken(t: Tracker, a: Advanced, word: Word, records: u64) -> WordAn
     ensures { λ r. ⌜ r ≡ takenAnswer t a word records ⌝ }
 {
     let kind = a.word;
-    let settings = t.settings;
     let here = t.here();
     WordAnswer {
         tracker: t.after(a, word),
@@ -193,7 +192,7 @@ pub(crate) fn taken(t: Tracker, a: Advanced, word: Word, records: u64) -> WordAn
             kind: kind,
             guessed: a.guessed,
             records: records,
-            frame: frame_told(settings.frames, kind, word, here, t.frame),
+            frame: frame_told(t.settings.frames, kind, word, here, t.frame),
             lanes: lanes_told(kind, word),
         },
     }

@@ -150,13 +150,19 @@ fn found(out: [u64; 8]) -> u64 {
     }
 }
 
+// A tracker after an IHW and a TDH with BC 0.
+fn tdh_taken(period: u16) -> Tracker
+    ensures { λ r. ⌜ Good r ⌝ }
+{
+    let mut out = [0u64; 8];
+    let begun = packet_taken(period).word(b"\0\0\0\0\0\0\0\0\0\xE0", &mut out);
+    let answer = begun.tracker.word(b"\0\x30\0\0\0\0\0\0\0\xE8", &mut out);
+    answer.tracker
+}
+
 // "For legal BCs a set period of 3564 always differs": after an IHW and a TDH with BC 0, TDHs at the distances 0, 1 .. 3563.
 fn show_period() {
-    let mut first = [0u64; 8];
-    let begun = packet_taken(3564).word(b"\0\0\0\0\0\0\0\0\0\xE0", &mut first);
-    let ready = begun.tracker;
-    let opened = ready.word(b"\0\x30\0\0\0\0\0\0\0\xE8", &mut first);
-    let mut t = opened.tracker;
+    let mut t = tdh_taken(3564);
     let mut bc: u64 = 0;
     let mut differ: u64 = 0;
     let mut sum: u64 = 0;

@@ -104,8 +104,7 @@ fn packet_step(r: Report, file: &[u8], packet: Packet, words: u16) -> Filled
     requires { ⌜ Good (r .tracker) ⌝ }
     ensures { λ p. ⌜ p ≡ filledOf (itemStep (now (file .entry)) r (F.Packet packet words)) ⌝ }
 {
-    let tracker = r.tracker;
-    let answer = tracker.packet(packet);
+    let answer = r.tracker.packet(packet);
     let next = answer.tracker;
     Filled {
         report: Report {

@@ -1,11 +1,10 @@
 -- `fixed` meets its contract.
 -- Assumes nothing.
-use Rattle.cdp_running.proofs.Calls.{periodic-kept}
 use Rattle.cdp_running.proofs.fixed.Statement.{statement}
 use Rattle.cdp_running.proofs.fixed.Tie as tie
 
 returns : tie.Need-returns
-returns c = periodic-kept (c .before .args .settings) (c .if1 .taken)
+returns c = simp (c .if1 .taken)
 
 returns-2 : tie.Need-returns-2
 returns-2 c = simp (c .if1 .left)

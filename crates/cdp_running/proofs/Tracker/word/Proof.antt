@@ -31,14 +31,14 @@ taken-requires : tie.Need-taken-requires
 taken-requires c κs =
     let c7 = c .before .before .before .before .before .before .before in
     let c14 = c7 .before .before .before .before .before .before .before in
-    c14 .before .before .before .before .before .before .before .pre
+    c14 .before .before .before .before .before .before .pre
 
 returns-4 : tie.Need-returns-4
 returns-4 c =
     let c1 = c .before in
     let c5 = c1 .before .before .before .before in
     let c9 = c5 .before .before .before .before in
-    let c13 = c9 .before .before .before .before in
+    let c13 = c9 .before .before .before in
     let c18 = c13 .before .before .before .before .before in
     let s = c18 .before .before .before in
     let t = s .args .self in
@@ -46,13 +46,13 @@ returns-4 c =
     let is = ten b (c18 .from-buf .ensures .answer) (c13 .before .before .before .word .given .1) in
     let wrote = as-written t b (c9 .advance .ensures) (is .1) (c5 .before .before .here .ensures) (c5 .before .before .before .rows-of .ensures) (c5 .write .ensures) in
     let d = now (s .args .out) in
-    word-4 t b d (s .pre) (is .0) (not-false _ (c13 .if1 .left)) (c9 .before .before .if2 .left) (of-word t b d (s .pre) (is .0) (not-false _ (c13 .if1 .left)) (c9 .before .before .if2 .left) wrote) (c1 .enum-told2 .given .1) (c .refused4 .ensures)
+    word-4 t b d (s .pre) (is .0) (not-false _ (c13 .if1 .left)) (c9 .before .if2 .left) (of-word t b d (s .pre) (is .0) (not-false _ (c13 .if1 .left)) (c9 .before .if2 .left) wrote) (c1 .enum-told2 .given .1) (c .refused4 .ensures)
 
 returns-5 : tie.Need-returns-5
 returns-5 c =
     let c6 = c .before .before .before .before .before .before in
     let c10 = c6 .before .before .before .before in
-    let c14 = c10 .before .before .before .before in
+    let c14 = c10 .before .before .before in
     let c19 = c14 .before .before .before .before .before in
     let s = c19 .before .before .before in
     let t = s .args .self in
@@ -60,7 +60,7 @@ returns-5 c =
     let is = ten b (c19 .from-buf .ensures .answer) (c14 .before .before .before .word .given .1) in
     let wrote = as-written t b (c10 .advance .ensures) (is .1) (c6 .before .before .here .ensures) (c6 .before .before .before .rows-of .ensures) (c6 .write .ensures) in
     let d = now (s .args .out) in
-    word-taken t b d (s .pre) (is .0) (not-false _ (c14 .if1 .left)) (c10 .before .before .if2 .left) (of-word t b d (s .pre) (is .0) (not-false _ (c14 .if1 .left)) (c10 .before .before .if2 .left) wrote) (c .before .before .n .given .1) (as-taken t b (c10 .advance .ensures) (is .1) (c .taken .ensures))
+    word-taken t b d (s .pre) (is .0) (not-false _ (c14 .if1 .left)) (c10 .before .if2 .left) (of-word t b d (s .pre) (is .0) (not-false _ (c14 .if1 .left)) (c10 .before .if2 .left) wrote) (c .before .before .n .given .1) (as-taken t b (c10 .advance .ensures) (is .1) (c .taken .ensures))
 
 pub word-spec : {M : Type 1} → statement M
 word-spec =
