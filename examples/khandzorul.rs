@@ -8,6 +8,8 @@ use std::mem::size_of;
 
 pub const TRACKER_WORDS: usize = 32;
 pub const WORD_BYTES: usize = 10;
+pub const DATA_BYTES: usize = 9;
+pub const LANES: u64 = 28;
 pub const PACKET_WORDS: usize = 4096;
 pub const RECORD_NUMBERS: usize = 4;
 pub const RECORDS_PER_WORD: usize = 6;
@@ -25,6 +27,7 @@ pub enum Refused {
     PacketField = 5,
     FileShape = 6,
     FileCount = 7,
+    WordField = 8,
     NoTracker = 100,
     NoSettings = 101,
 }
@@ -95,6 +98,47 @@ pub struct Packet {
     pub format: u64,
 }
 
+/// What a lane says of itself, and the worst of them of the word.
+#[derive(Clone, Copy, Debug, PartialEq, Eq, PartialOrd, Ord)]
+pub enum Status {
+    Good = 0,
+    Warning = 1,
+    Error = 2,
+    Fatal = 3,
+}
+
+/// The fields of a TDH to be written. `internal`, `no_data` and `continuation` are 0 or 1.
+#[derive(Clone, Copy, Debug, Default)]
+pub struct Tdh {
+    pub trigger_type: u64,
+    pub internal: u64,
+    pub no_data: u64,
+    pub continuation: u64,
+    pub bc: u64,
+    pub orbit: u64,
+}
+
+/// The fields of a TDT to be written. All but `lane_status` are 0 or 1.
+#[derive(Clone, Copy, Debug, Default)]
+pub struct Tdt {
+    pub lane_status: u64,
+    pub timeout_to_start: u64,
+    pub timeout_start_stop: u64,
+    pub timeout_in_idle: u64,
+    pub lane_starts_violation: u64,
+    pub transmission_timeout: u64,
+    pub packet_done: u64,
+}
+
+/// The fields of a DDW0 to be written. `lane_starts_violation` and `transmission_timeout` are 0 or 1.
+#[derive(Clone, Copy, Debug, Default)]
+pub struct Ddw0 {
+    pub lane_status: u64,
+    pub lane_starts_violation: u64,
+    pub transmission_timeout: u64,
+    pub index: u64,
+}
+
 #[repr(C)]
 struct WordAnswer {
     refusal: u64,
@@ -114,8 +158,14 @@ struct PayloadAnswer {
     records: u64,
 }
 
+#[repr(C)]
+struct StatusAnswer {
+    refusal: u64,
+    status: u64,
+}
+
 // As the header asserts.
-const _: () = assert!(size_of::<WordAnswer>() == 64 && size_of::<PayloadAnswer>() == 24);
+const _: () = assert!(size_of::<WordAnswer>() == 64 && size_of::<PayloadAnswer>() == 24 && size_of::<StatusAnswer>() == 16);
 
 extern "C" {
     fn khz_start(tracker: *mut u64, tracker_len: usize, running: u64, frames: u64, periodic: u64, period: u64) -> u64;
@@ -127,6 +177,17 @@ extern "C" {
     fn khz_payload(tracker: *mut u64, tracker_len: usize, payload: *const u8, payload_len: usize, records: *mut u64, records_len: usize) -> PayloadAnswer;
     fn khz_reset(tracker: *mut u64, tracker_len: usize) -> u64;
     fn khz_check_file(file: *const u8, file_len: usize) -> u64;
+    fn khz_write_ihw(active_lanes: u64, word: *mut u8, word_len: usize) -> u64;
+    #[rustfmt::skip]
+    fn khz_write_tdh(trigger_type: u64, internal: u64, no_data: u64, continuation: u64, bc: u64, orbit: u64, word: *mut u8, word_len: usize) -> u64;
+    #[rustfmt::skip]
+    fn khz_write_tdt(lane_status: u64, timeout_to_start: u64, timeout_start_stop: u64, timeout_in_idle: u64, lane_starts_violation: u64, transmission_timeout: u64, packet_done: u64, word: *mut u8, word_len: usize) -> u64;
+    #[rustfmt::skip]
+    fn khz_write_ddw0(lane_status: u64, lane_starts_violation: u64, transmission_timeout: u64, index: u64, word: *mut u8, word_len: usize) -> u64;
+    fn khz_write_cdw(user_fields: u64, index: u64, word: *mut u8, word_len: usize) -> u64;
+    fn khz_write_data(id: u64, bytes: *const u8, bytes_len: usize, word: *mut u8, word_len: usize) -> u64;
+    fn khz_worst_lane(word: *const u8, word_len: usize) -> StatusAnswer;
+    fn khz_lane_status(word: *const u8, word_len: usize, lane: u64) -> StatusAnswer;
 }
 
 fn done(refusal: u64) -> Result<(), Refused> {
@@ -134,7 +195,7 @@ fn done(refusal: u64) -> Result<(), Refused> {
     if refusal == 0 {
         return Ok(());
     }
-    let all = [WrongLength, NoPacket, PacketFull, NoRoom, PacketField, FileShape, FileCount, NoTracker, NoSettings];
+    let all = [WrongLength, NoPacket, PacketFull, NoRoom, PacketField, FileShape, FileCount, WordField, NoTracker, NoSettings];
     Err(all.into_iter().find(|r| r.number() == refusal).expect("a refusal that the header has"))
 }
 
@@ -192,4 +253,63 @@ impl Tracker {
 /// Is this a bench file?
 pub fn check_file(file: &[u8]) -> Result<(), Refused> {
     done(unsafe { khz_check_file(file.as_ptr(), file.len()) })
+}
+
+// The writers: ten bytes of a word from its fields. A field that is wider than its bits is refused, and the bytes stay as they were.
+
+/// `active_lanes`: bit n for lane n.
+pub fn write_ihw(active_lanes: u64, word: &mut [u8]) -> Result<(), Refused> {
+    done(unsafe { khz_write_ihw(active_lanes, word.as_mut_ptr(), word.len()) })
+}
+
+impl Tdh {
+    pub fn write(&self, word: &mut [u8]) -> Result<(), Refused> {
+        let (w, n) = (word.as_mut_ptr(), word.len());
+        done(unsafe { khz_write_tdh(self.trigger_type, self.internal, self.no_data, self.continuation, self.bc, self.orbit, w, n) })
+    }
+}
+
+impl Tdt {
+    #[rustfmt::skip]
+    pub fn write(&self, word: &mut [u8]) -> Result<(), Refused> {
+        let (w, n) = (word.as_mut_ptr(), word.len());
+        done(unsafe { khz_write_tdt(self.lane_status, self.timeout_to_start, self.timeout_start_stop, self.timeout_in_idle, self.lane_starts_violation, self.transmission_timeout, self.packet_done, w, n) })
+    }
+}
+
+impl Ddw0 {
+    pub fn write(&self, word: &mut [u8]) -> Result<(), Refused> {
+        let (w, n) = (word.as_mut_ptr(), word.len());
+        done(unsafe { khz_write_ddw0(self.lane_status, self.lane_starts_violation, self.transmission_timeout, self.index, w, n) })
+    }
+}
+
+pub fn write_cdw(user_fields: u64, index: u64, word: &mut [u8]) -> Result<(), Refused> {
+    done(unsafe { khz_write_cdw(user_fields, index, word.as_mut_ptr(), word.len()) })
+}
+
+/// Nine bytes, then the id.
+pub fn write_data(id: u64, bytes: &[u8], word: &mut [u8]) -> Result<(), Refused> {
+    done(unsafe { khz_write_data(id, bytes.as_ptr(), bytes.len(), word.as_mut_ptr(), word.len()) })
+}
+
+fn status(a: StatusAnswer) -> Result<Status, Refused> {
+    done(a.refusal)?;
+    Ok(match a.status {
+        0 => Status::Good,
+        1 => Status::Warning,
+        2 => Status::Error,
+        3 => Status::Fatal,
+        _ => panic!("a status that the header has not"),
+    })
+}
+
+/// The status of a TDT or DDW0: that of its worst lane.
+pub fn worst_lane(word: &[u8]) -> Result<Status, Refused> {
+    status(unsafe { khz_worst_lane(word.as_ptr(), word.len()) })
+}
+
+/// The status of one lane of a TDT or DDW0; a lane above 27 is good.
+pub fn lane_status(word: &[u8], lane: u64) -> Result<Status, Refused> {
+    status(unsafe { khz_lane_status(word.as_ptr(), word.len(), lane) })
 }

@@ -1,6 +1,8 @@
 /* khandzorul.h: the C boundary of Khandzorul, checks of the words that an ITS readout link delivers. C99 and C++.
  *
  * Use: khz_start once for each link, khz_packet at each packet, then khz_payload for all its words or khz_word for each of them.
+ *   khz_write_ihw and its like make the words of a test before a stave is wired; they need no tracker. khz_worst_lane and khz_lane_status
+ *   read the lane status of one word, alone.
  *
  * Numbers.  Every number comes in with 64 bits, so that its range is decided by the library and not by a conversion of the compiler. A
  *   number that is too large is refused, and never cut: a crossing of 65541 is not crossing 5.
@@ -21,6 +23,7 @@
  * Refusals.  Each call answers 0 or the number of a refusal. 100 comes before every other number. A refused khz_start, khz_packet,
  *   khz_word or khz_reset leaves the tracker and the records as they were, bit for bit; so does a khz_payload that took no word. A
  *   khz_payload that is refused with 3 or 4 after some words keeps those: they count, and their records stand in the array.
+ *   A refused khz_write_ihw or its like leaves the word's bytes as they were.
  *   In an answer with a refusal all other numbers are 0, save words and records of a khz_payload_answer.
  *   Look at every answer. A compiler that can warn of a call whose answer is not looked at does so.
  */
@@ -38,6 +41,8 @@ extern "C" {
 
 #define KHZ_TRACKER_WORDS 32                     /* numbers in a tracker */
 #define KHZ_WORD_BYTES 10                        /* bytes in a word */
+#define KHZ_DATA_BYTES 9                         /* bytes of a data word before its id */
+#define KHZ_LANES 28                             /* lanes of a link, 0 to 27 */
 #define KHZ_PACKET_WORDS 4096                    /* words that a packet takes */
 #define KHZ_RECORD_NUMBERS 4                     /* numbers in a record: position, code, first, second */
 #define KHZ_RECORDS_PER_WORD 6                   /* the most records that one word gives */
@@ -74,17 +79,26 @@ enum khz_frame {
     KHZ_FRAME_CLOSED = 2
 };
 
+/* What a lane of a TDT or DDW0 says of itself, and the worst of them of the word. */
+enum khz_status {
+    KHZ_GOOD = 0,
+    KHZ_WARNING = 1,
+    KHZ_ERROR = 2,
+    KHZ_FATAL = 3
+};
+
 /* Refusals. Where several hold, the first of this order is given: of a start 100, 101; of a packet 100, 5; of a word and of a payload
- * 100, 1, 2, 3, 4; of a file 6, 7, then packet by packet 5, 3. */
+ * 100, 1, 2, 3, 4; of a file 6, 7, then packet by packet 5, 3; of a word to be written 8, 1. */
 enum khz_refusal {
     KHZ_DONE = 0,                                /* not refused */
-    KHZ_WRONG_LENGTH = 1,                        /* a word is not 10 bytes, or a payload not a multiple of 10 */
+    KHZ_WRONG_LENGTH = 1,                        /* a word, or the place for one, is not 10 bytes, or a payload not a multiple of 10 */
     KHZ_NO_PACKET = 2,                           /* no packet was accepted yet */
     KHZ_PACKET_FULL = 3,                         /* 4,096 words were taken in this packet; in a file, a packet's count is above 4,096 */
     KHZ_NO_ROOM = 4,                             /* the records of this word exceed the room; the word is not taken */
     KHZ_PACKET_FIELD = 5,                        /* a packet's field is out of its range */
     KHZ_FILE_SHAPE = 6,                          /* a file is under 16 or over 60,000 bytes, or its offsets or length are not as stated */
     KHZ_FILE_COUNT = 7,                          /* the packets' word counts do not sum to the header's */
+    KHZ_WORD_FIELD = 8,                          /* a field to be written is wider than its bits, or a data word's id is no data id */
     KHZ_NO_TRACKER = 100,                        /* tracker_len is not KHZ_TRACKER_WORDS, or the array holds no tracker (all zeros is none) */
     KHZ_NO_SETTINGS = 101                        /* a flag is neither 0 nor 1, or periodic is 1 and the period above 65,535 */
 };
@@ -140,11 +154,19 @@ typedef struct {
     uint64_t records;                            /* records written */
 } khz_payload_answer;
 
+/* Answer of khz_worst_lane and khz_lane_status. */
+typedef struct {
+    uint64_t refusal;                            /* enum khz_refusal */
+    uint64_t status;                             /* enum khz_status */
+} khz_status_answer;
+
 /* The library writes the answers as numbers one after the other. */
 #if defined(__cplusplus) && __cplusplus >= 201103L
-static_assert(sizeof(khz_word_answer) == 64 && sizeof(khz_payload_answer) == 24, "answers are 8 and 3 numbers of 64 bits");
+static_assert(sizeof(khz_word_answer) == 64 && sizeof(khz_payload_answer) == 24 && sizeof(khz_status_answer) == 16,
+              "answers are 8, 3 and 2 numbers of 64 bits");
 #elif defined(__STDC_VERSION__) && __STDC_VERSION__ >= 201112L
-_Static_assert(sizeof(khz_word_answer) == 64 && sizeof(khz_payload_answer) == 24, "answers are 8 and 3 numbers of 64 bits");
+_Static_assert(sizeof(khz_word_answer) == 64 && sizeof(khz_payload_answer) == 24 && sizeof(khz_status_answer) == 16,
+               "answers are 8, 3 and 2 numbers of 64 bits");
 #endif
 
 /* Makes a tracker, whatever stood in the array before. Answers 0, 100 or 101.
@@ -169,6 +191,35 @@ KHZ_ANSWER uint64_t khz_reset(uint64_t *tracker, size_t tracker_len);
 
 /* Is this a bench file? Answers 0, or 6, 7, 5 or 3. */
 KHZ_ANSWER uint64_t khz_check_file(const uint8_t *file, size_t file_len);
+
+/* The writers: the ten bytes of a word from its fields, its id and its reserved bits as they must be. Each answers 0; 8 where a field is wider
+ * than its bits; else 1 where word_len is not KHZ_WORD_BYTES. Refused, the bytes at word stay as they were.
+ * Only the width counts: a crossing past KHZ_LAST_CROSSING and a TDH that nothing triggered can be written, so that a box can be tried with them.
+ * What is read of a written word are the fields that it was written from. */
+
+/* active_lanes: bits 27:0, bit n for lane n. */
+KHZ_ANSWER uint64_t khz_write_ihw(uint64_t active_lanes, uint8_t *word, size_t word_len);
+
+/* trigger_type: 12 bits. internal, no_data, continuation: 0 or 1. bc: 12 bits. orbit: 32 bits. */
+KHZ_ANSWER uint64_t khz_write_tdh(uint64_t trigger_type, uint64_t internal, uint64_t no_data, uint64_t continuation, uint64_t bc, uint64_t orbit, uint8_t *word, size_t word_len);
+
+/* lane_status: 56 bits, 2n+1:2n for lane n. The others: 0 or 1. */
+KHZ_ANSWER uint64_t khz_write_tdt(uint64_t lane_status, uint64_t timeout_to_start, uint64_t timeout_start_stop, uint64_t timeout_in_idle, uint64_t lane_starts_violation, uint64_t transmission_timeout, uint64_t packet_done, uint8_t *word, size_t word_len);
+
+/* lane_status: as in a TDT. lane_starts_violation, transmission_timeout: 0 or 1. index: 4 bits. */
+KHZ_ANSWER uint64_t khz_write_ddw0(uint64_t lane_status, uint64_t lane_starts_violation, uint64_t transmission_timeout, uint64_t index, uint8_t *word, size_t word_len);
+
+/* user_fields: 48 bits. index: 24 bits. */
+KHZ_ANSWER uint64_t khz_write_cdw(uint64_t user_fields, uint64_t index, uint8_t *word, size_t word_len);
+
+/* A data word: KHZ_DATA_BYTES bytes, then the id. 8 also where id is none of the data ids (0x20 to 0x28; 0x40 to 0x46, 0x48 to 0x4E, 0x50 to 0x56
+ * and 0x58 to 0x5E) and where bytes_len is not KHZ_DATA_BYTES. */
+KHZ_ANSWER uint64_t khz_write_data(uint64_t id, const uint8_t *bytes, size_t bytes_len, uint8_t *word, size_t word_len);
+
+/* The lane status of a TDT or DDW0: of its worst lane, or of one lane; a lane above 27 has none, and the answer is 0. The id is not looked at. The only
+ * refusal is 1, where word_len is not KHZ_WORD_BYTES. */
+KHZ_ANSWER khz_status_answer khz_worst_lane(const uint8_t *word, size_t word_len);
+KHZ_ANSWER khz_status_answer khz_lane_status(const uint8_t *word, size_t word_len, uint64_t lane);
 
 #ifdef __cplusplus
 }

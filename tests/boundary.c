@@ -1,5 +1,5 @@
 /* boundary.c: the C boundary by example: 01's whole case through word and payload calls, every number and length that comes in about the edge of
- * its range, and khz_check_file about its edges.
+ * its range, khz_check_file about its edges, and the writers of words beside a model that sets bit after bit.
  *
  *     cc -std=c11 -I include tests/boundary.c target/staticlib/libkhandzorul.a -o /tmp/boundary && /tmp/boundary
  *
@@ -279,6 +279,198 @@ static void files(void)
     expect(n == 60010 && khz_check_file(f, n) == 6, "a file of 60,010 bytes is not refused with 6");
 }
 
+/* The kinds that can be written. A kind has an id and fields, from the table of docs/RULES.md, in the order of its writer's parameters; what belongs to no
+ * field and not to the id is reserved. A data word has its id as a parameter, and its data as nine bytes. */
+enum { IHW, TDH, TDT, DDW0, CDW, KINDS };
+enum { MOST_FIELDS = 7 };
+static const struct {
+    const char *name;
+    uint8_t id;
+    int fields;
+    struct {
+        int high, low;
+    } bits[MOST_FIELDS];
+} kinds[KINDS] = {
+    {"IHW", 0xE0, 1, {{27, 0}}},
+    {"TDH", 0xE8, 6, {{11, 0}, {12, 12}, {13, 13}, {14, 14}, {27, 16}, {63, 32}}},
+    {"TDT", 0xF0, 7, {{55, 0}, {63, 63}, {62, 62}, {61, 61}, {67, 67}, {65, 65}, {64, 64}}},
+    {"DDW0", 0xE4, 4, {{55, 0}, {67, 67}, {65, 65}, {71, 68}}},
+    {"CDW", 0xF8, 2, {{47, 0}, {71, 48}}},
+};
+
+static uint64_t write_word(int kind, const uint64_t *v, uint8_t *word, size_t len)
+{
+    switch (kind) {
+    case IHW:
+        return khz_write_ihw(v[0], word, len);
+    case TDH:
+        return khz_write_tdh(v[0], v[1], v[2], v[3], v[4], v[5], word, len);
+    case TDT:
+        return khz_write_tdt(v[0], v[1], v[2], v[3], v[4], v[5], v[6], word, len);
+    case DDW0:
+        return khz_write_ddw0(v[0], v[1], v[2], v[3], word, len);
+    default:
+        return khz_write_cdw(v[0], v[1], word, len);
+    }
+}
+
+/* The model: the id, and each bit of each value at its place. */
+static void model_word(int kind, const uint64_t *v, uint8_t *word)
+{
+    memset(word, 0, KHZ_WORD_BYTES);
+    word[9] = kinds[kind].id;
+    for (int i = 0; i < kinds[kind].fields; i++)
+        for (int b = kinds[kind].bits[i].low; b <= kinds[kind].bits[i].high; b++)
+            if (v[i] >> (b - kinds[kind].bits[i].low) & 1)
+                word[b / 8] |= (uint8_t)(1 << b % 8);
+}
+
+static int width(int kind, int field)
+{
+    return kinds[kind].bits[field].high - kinds[kind].bits[field].low + 1;
+}
+
+/* The place for a word with a byte more on each side, all of them marked. */
+enum { SPARE = 12 };
+static const uint8_t marked[SPARE + 2] = {0xA5, 0xA5, 0xA5, 0xA5, 0xA5, 0xA5, 0xA5, 0xA5, 0xA5, 0xA5, 0xA5, 0xA5, 0xA5, 0xA5};
+
+/* One call of a writer: what it answers, and that it writes the model's word or nothing. */
+static void writes(int kind, const uint64_t *v, size_t len, uint64_t refusal, const char *what)
+{
+    uint8_t place[SPARE + 2], want[SPARE + 2];
+    char said[96];
+
+    memcpy(place, marked, sizeof place);
+    memcpy(want, marked, sizeof want);
+    if (refusal == KHZ_DONE)
+        model_word(kind, v, want + 1);
+    snprintf(said, sizeof said, "%s with %s: another answer", kinds[kind].name, what);
+    expect(write_word(kind, v, place + 1, len) == refusal, said);
+    snprintf(said, sizeof said, "%s with %s: other bytes", kinds[kind].name, what);
+    expect(memcmp(place, want, sizeof place) == 0, said);
+}
+
+static void written_fields(void)
+{
+    for (int k = 0; k < KINDS; k++) {
+        uint64_t v[MOST_FIELDS] = {0};
+        char what[64];
+
+        writes(k, v, KHZ_WORD_BYTES, KHZ_DONE, "all fields 0");
+        for (int i = 0; i < kinds[k].fields; i++)
+            v[i] = (UINT64_C(1) << width(k, i)) - 1;
+        writes(k, v, KHZ_WORD_BYTES, KHZ_DONE, "each field at its width");
+        for (size_t len = 0; len <= SPARE; len++)
+            if (len != KHZ_WORD_BYTES)
+                writes(k, v, len, KHZ_WRONG_LENGTH, "another length");
+        for (int i = 0; i < kinds[k].fields; i++) {
+            const uint64_t last = v[i], wide[] = {last + 1, last + 1 + (last >> 1), UINT64_C(1) << 32, UINT64_C(1) << 63, UINT64_MAX};
+            for (int b = 0; b < width(k, i); b++) {
+                v[i] = UINT64_C(1) << b;
+                snprintf(what, sizeof what, "bit %d of field %d", b, i);
+                writes(k, v, KHZ_WORD_BYTES, KHZ_DONE, what);
+            }
+            for (size_t j = 0; j < sizeof wide / sizeof *wide; j++) {
+                if (wide[j] <= last)
+                    continue;
+                v[i] = wide[j];
+                snprintf(what, sizeof what, "field %d of %" PRIu64, i, wide[j]);
+                writes(k, v, KHZ_WORD_BYTES, KHZ_WORD_FIELD, what);
+                writes(k, v, 0, KHZ_WORD_FIELD, "8 and 1 at once");
+                writes(k, v, SPARE, KHZ_WORD_FIELD, "8 and 1 at once");
+            }
+            v[i] = last;
+        }
+    }
+}
+
+/* Only the width counts: what the checker will complain of can be written. */
+static void written_faults(void)
+{
+    uint64_t tdh[6] = {0, 0, 0, 0, 3564, 7};
+
+    writes(TDH, tdh, KHZ_WORD_BYTES, KHZ_DONE, "nothing that triggered it, past the last crossing");
+    tdh[4] = 4095;
+    writes(TDH, tdh, KHZ_WORD_BYTES, KHZ_DONE, "crossing 4095");
+    expect(khz_write_ihw(0, NULL, 0) == KHZ_WRONG_LENGTH, "an IHW without a place for it is not refused with 1");
+}
+
+static bool data_id(uint64_t id)
+{
+    return (id >= 0x20 && id <= 0x28) || (id >= 0x40 && id <= 0x46) || (id >= 0x48 && id <= 0x4E) || (id >= 0x50 && id <= 0x56) ||
+           (id >= 0x58 && id <= 0x5E);
+}
+
+static void written_data(void)
+{
+    static const uint8_t nine[SPARE] = {0xFF, 1, 2, 0x80, 4, 5, 6, 0x7F, 0xFE, 0x11, 0x12, 0x13};
+    static const uint64_t far[] = {0, 256, UINT64_C(1) << 32, UINT64_C(1) << 63};
+    uint8_t place[SPARE];
+    char what[64];
+
+    for (size_t j = 0; j < sizeof far / sizeof *far; j++)
+        for (uint64_t id = 0; id < 256; id++) {
+            bool taken = data_id(id + far[j]);
+            memcpy(place, marked, sizeof place);
+            snprintf(what, sizeof what, "a data word of id %" PRIu64, id + far[j]);
+            expect(khz_write_data(id + far[j], nine, KHZ_DATA_BYTES, place, KHZ_WORD_BYTES) == (taken ? KHZ_DONE : KHZ_WORD_FIELD), what);
+            expect(taken ? memcmp(place, nine, 9) == 0 && place[9] == id && place[10] == marked[10] : memcmp(place, marked, sizeof place) == 0, what);
+        }
+    memcpy(place, marked, sizeof place);
+    for (size_t len = 0; len <= SPARE; len++) {
+        snprintf(what, sizeof what, "a data word of or for %zu bytes", len);
+        if (len != KHZ_DATA_BYTES) {
+            expect(khz_write_data(0x21, nine, len, place, KHZ_WORD_BYTES) == KHZ_WORD_FIELD, what);
+            expect(khz_write_data(0x21, nine, len, place, len == KHZ_WORD_BYTES ? 9 : len) == KHZ_WORD_FIELD, "8 does not come before 1");
+        }
+        if (len != KHZ_WORD_BYTES) {
+            expect(khz_write_data(0x21, nine, KHZ_DATA_BYTES, place, len) == KHZ_WRONG_LENGTH, what);
+            expect(khz_write_data(0x29, nine, KHZ_DATA_BYTES, place, len) == KHZ_WORD_FIELD, "8 does not come before 1");
+        }
+    }
+    expect(khz_write_data(0x21, NULL, 0, NULL, 0) == KHZ_WORD_FIELD, "a data word of nothing is not refused with 8");
+    expect(memcmp(place, marked, sizeof place) == 0, "a refused data word is written");
+}
+
+/* Each lane with each status, alone and beside a lane with another; bits that are no lane's are set throughout. */
+static void lane_status(void)
+{
+    static const uint64_t none[] = {28, 29, 31, 32, 63, 255, 256, 257, UINT64_C(1) << 32, UINT64_C(1) << 63, UINT64_MAX};
+    uint8_t word[SPARE] = {0};
+    char wrong[64] = "";                             /* the last pair that is answered wrongly */
+
+    for (uint64_t lane = 0; lane < KHZ_LANES; lane++)
+        for (uint64_t other = 0; other < KHZ_LANES; other++)
+            for (uint64_t pair = 0; pair < 16; pair++) {
+                uint64_t a = pair % 4, b = other == lane ? a : pair / 4;
+                khz_status_answer r, s;
+                memset(word, 0, 7);
+                memset(word + 7, 0xFF, 3);
+                word[lane / 4] |= (uint8_t)(a << lane % 4 * 2);
+                word[other / 4] |= (uint8_t)(b << other % 4 * 2);
+                r = khz_worst_lane(word, KHZ_WORD_BYTES);
+                s = khz_lane_status(word, KHZ_WORD_BYTES, lane);
+                if (r.refusal != KHZ_DONE || r.status != (a > b ? a : b) || s.refusal != KHZ_DONE || s.status != a)
+                    snprintf(wrong, sizeof wrong, "status %d of lane %d beside status %d of lane %d", (int)a, (int)lane, (int)b, (int)other);
+            }
+    expect(!*wrong, wrong);
+    memset(word, 0xFF, sizeof word);
+    for (size_t j = 0; j < sizeof none / sizeof *none; j++) {
+        khz_status_answer s = khz_lane_status(word, KHZ_WORD_BYTES, none[j]);
+        expect(s.refusal == KHZ_DONE && s.status == KHZ_GOOD, "a lane above 27 has a status");
+    }
+    for (size_t len = 0; len <= SPARE; len++)
+        if (len != KHZ_WORD_BYTES) {
+            khz_status_answer r = khz_worst_lane(word, len), s = khz_lane_status(word, len, 0);
+            expect(r.refusal == KHZ_WRONG_LENGTH && r.status == 0 && s.refusal == KHZ_WRONG_LENGTH && s.status == 0, "lane status of another length");
+        }
+    word[0] = 0x0E;
+    memset(word + 1, 0, 9);
+    expect(khz_worst_lane(word, KHZ_WORD_BYTES).status == KHZ_FATAL, "0x0E is not fatal");
+    word[0] = 0x06;
+    expect(khz_worst_lane(word, KHZ_WORD_BYTES).status == KHZ_ERROR, "0x06 is not error");
+}
+
 int main(void)
 {
     case_by_words();
@@ -288,6 +480,10 @@ int main(void)
     lengths();
     versions();
     files();
+    written_fields();
+    written_faults();
+    written_data();
+    lane_status();
     printf("boundary: %u checks, %u failed\n", checks, failed);
     return failed ? 1 : 0;
 }

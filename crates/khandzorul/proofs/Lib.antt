@@ -1,3 +1,4 @@
 pub mod Exports
 pub mod Laws
 pub mod Unique
+pub mod Lanes

@@ -1,5 +1,5 @@
-// The C boundary: the exported functions of include/khandzorul.h. The caller owns all memory. None of them asks anything of the caller: an array
-// that is no tracker is answered by 100 and left as it was.
+// The C boundary: the exported functions of include/khandzorul.h, here the calls on a tracker. The caller owns all memory. None of them asks anything
+// of the caller: an array that is no tracker is answered by 100 and left as it was.
 ghost use mathlib.Core.Path.{_≡_};
 ghost use mathlib.Core.Bool.{true, cond};
 ghost use Prim.Native.Nat.{_≤_};
@@ -8,6 +8,8 @@ ghost use Rattle.tracker_array.specs.Read.{isOn};
 ghost use Rattle.khandzorul.specs.Calls.{maxPeriod, areSettings, StartOn, PacketOn, ResetOn, WordOn, PayloadOn};
 
 mod answer;
+pub mod status;
+pub mod write;
 
 use cdp_running::Tracker;
 use validators::Settings;

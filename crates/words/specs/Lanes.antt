@@ -10,6 +10,10 @@ use Rattle.words.specs.Word.{bits}
 abbrev pub lanes : ℕ
 lanes = 28
 
+-- "55:0 lane status", of a TDT and of a DDW0: all lanes as one number.
+abbrev pub laneStatus27to0 : Word → ℕ
+laneStatus27to0 = bits 55 0
+
 -- Lane n's two bits; a lane above 27 has no status, and counts as good.
 abbrev pub laneStatus : ℕ → Word → ℕ
 laneStatus n w = cond (ltb n lanes) (bits (2 * n + 1) (2 * n) w) 0

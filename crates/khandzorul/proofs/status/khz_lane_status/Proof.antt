@@ -1,0 +1,25 @@
+-- `status::khz_lane_status` meets its contract.
+-- Assumes nothing.
+use borrow.Author.Needs.{needs}
+use denote.Ref.{now}
+use mathlib.Core.Path.{_∙_}
+use Rattle.words.specs.Lanes.{laneStatus}
+use Rattle.khandzorul.proofs.Lanes.{answered, status-is, status-refused}
+use Rattle.khandzorul.proofs.status.khz_lane_status.Statement.{statement}
+use Rattle.khandzorul.proofs.status.khz_lane_status.Tie as tie
+
+returns : tie.Need-returns
+returns c =
+    let w = c .before .before in
+    let b = w .before .before in
+    let a = b .before .before .args in
+    answered (c .lane-status .ensures) ∙ status-is (laneStatus (a .lane)) (now (a .word)) (b .from-buf .ensures) _ (w .word .given .1)
+
+returns-2 : tie.Need-returns-2
+returns-2 c =
+    let b = c .before .before .before in
+    let a = b .before .before .args in
+    status-refused (laneStatus (a .lane)) (now (a .word)) (b .from-buf .ensures) _ (c .before .n .given .1)
+
+pub khz-lane-status-spec : {M : Type 1} → statement M
+khz-lane-status-spec = tie.close (tie.spec (search needs) (search needs) (search needs) (search needs) (search needs) returns returns-2)

@@ -1,0 +1,5 @@
+pub mod Parts
+pub mod Bytes
+pub mod Round
+pub mod Writing
+pub mod Unique
