@@ -69,7 +69,9 @@ fi
 if [ -n "$stack" ]; then
     [ -f "$archive" ] || exit 1
     for a in "$archive" ${before:+"$before"}; do
-        "$cc" -std=c11 -O2 -Wall -Wextra -I include bench/stack.c bench/streams.c "$a" -o "$work/stack"
+        older='' # an archive without the writers of words
+        nm "$a" | grep -q khz_write_ihw || older=-DNO_WRITERS
+        "$cc" -std=c11 -O2 -Wall -Wextra $older -I include bench/stack.c bench/streams.c "$a" -o "$work/stack"
         echo "figures   bytes of stack a call, $a"
         "$work/stack"
     done

@@ -34,6 +34,20 @@ static void word(void) { seen = khz_word(tracker, KHZ_TRACKER_WORDS, bytes, leng
 static void payload(void) { seen = khz_payload(tracker, KHZ_TRACKER_WORDS, bytes, length, records, sizeof records / sizeof *records).refusal; }
 static void check_file(void) { seen = khz_check_file(bytes, length); }
 
+#ifndef NO_WRITERS /* an older archive has none */
+/* A written word, and its lane status. */
+static uint8_t written[KHZ_WORD_BYTES];
+static const uint8_t nine[KHZ_DATA_BYTES] = {1, 2, 3, 4, 5, 6, 7, 8, 9};
+static void write_ihw(void) { seen = khz_write_ihw(0xFFFFFFF, written, sizeof written); }
+static void write_tdh(void) { seen = khz_write_tdh(0xFFF, 1, 1, 1, 0xFFF, UINT32_MAX, written, sizeof written); }
+static void write_tdt(void) { seen = khz_write_tdt(UINT64_MAX >> 8, 1, 1, 1, 1, 1, 1, written, sizeof written); }
+static void write_ddw0(void) { seen = khz_write_ddw0(UINT64_MAX >> 8, 1, 1, 15, written, sizeof written); }
+static void write_cdw(void) { seen = khz_write_cdw(UINT64_MAX >> 16, 0xFFFFFF, written, sizeof written); }
+static void write_data(void) { seen = khz_write_data(0x5E, nine, sizeof nine, written, sizeof written); }
+static void worst_lane(void) { seen = khz_worst_lane(written, sizeof written).refusal; }
+static void lane_status(void) { seen = khz_lane_status(written, sizeof written, 27).refusal; }
+#endif
+
 /* Calls f with its stack below top. A register that the callee saves keeps the old place. */
 static void call_below(void (*f)(void), unsigned char *top)
 {
@@ -69,8 +83,13 @@ static struct {
     const char *name;
     void (*call)(void);
     size_t most;
-} calls[] = {{"khz_start", start, 0}, {"khz_packet", begin, 0}, {"khz_word", word, 0}, {"khz_payload", payload, 0}, {"khz_reset", reset, 0}, {"khz_check_file", check_file, 0}};
-enum { START, PACKET, WORD, PAYLOAD, RESET, CHECK_FILE, CALLS };
+} calls[] = {{"khz_start", start, 0}, {"khz_packet", begin, 0}, {"khz_word", word, 0}, {"khz_payload", payload, 0}, {"khz_reset", reset, 0}, {"khz_check_file", check_file, 0},
+#ifndef NO_WRITERS
+             {"khz_write_ihw", write_ihw, 0}, {"khz_write_tdh", write_tdh, 0}, {"khz_write_tdt", write_tdt, 0}, {"khz_write_ddw0", write_ddw0, 0},
+             {"khz_write_cdw", write_cdw, 0}, {"khz_write_data", write_data, 0}, {"khz_worst_lane", worst_lane, 0}, {"khz_lane_status", lane_status, 0},
+#endif
+};
+enum { START, PACKET, WORD, PAYLOAD, RESET, CHECK_FILE, WRITERS, CALLS = sizeof calls / sizeof *calls };
 
 static void try_call(int k)
 {
@@ -134,6 +153,8 @@ int main(int argc, char **argv)
         }
         make_file(&s);
     }
+    for (int k = WRITERS; k < CALLS; k++)
+        try_call(k);
     for (int k = 0; k < CALLS; k++)
         printf("%-15s %6zu\n", calls[k].name, calls[k].most - empty);
     return 0;

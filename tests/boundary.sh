@@ -69,7 +69,9 @@ header_c() {
     # an answer that is not looked at
     $cc -dM -E -x c /dev/null | grep -q __GNUC__ || return 0
     for call in 'khz_start(0, 0, 0, 0, 0, 0)' 'khz_packet(0, 0, 0, 0, 0, 0, 0, 0, 0)' 'khz_word(0, 0, 0, 0, 0, 0)' 'khz_payload(0, 0, 0, 0, 0, 0)' \
-        'khz_reset(0, 0)' 'khz_check_file(0, 0)'; do
+        'khz_reset(0, 0)' 'khz_check_file(0, 0)' 'khz_write_ihw(0, 0, 0)' 'khz_write_tdh(0, 0, 0, 0, 0, 0, 0, 0)' \
+        'khz_write_tdt(0, 0, 0, 0, 0, 0, 0, 0, 0)' 'khz_write_ddw0(0, 0, 0, 0, 0, 0)' 'khz_write_cdw(0, 0, 0, 0)' 'khz_write_data(0, 0, 0, 0, 0)' \
+        'khz_worst_lane(0, 0)' 'khz_lane_status(0, 0, 0)'; do
         printf '#include "khandzorul.h"\nint main(void) { %s; return 0; }\n' "$call" >"$work/header.c"
         if strict_c -std=c99 -c "$work/header.c" -o "$work/header.o" 2>"$work/warned" || ! grep -q unused-result "$work/warned"; then
             cat "$work/warned"
@@ -80,8 +82,8 @@ header_c() {
 }
 header_cxx() {
     # the struct's layout and the names are C's
-    printf '%s\n' '#include "khandzorul.h"' 'static_assert(sizeof(khz_word_answer) == 64 && sizeof(khz_payload_answer) == 24, "");' \
-        'int main() { return static_cast<int>(khz_reset(nullptr, 0)) == KHZ_NO_TRACKER ? 0 : 1; }' >"$work/header.cc"
+    printf '%s\n' '#include "khandzorul.h"' 'static_assert(sizeof(khz_word_answer) == 64 && sizeof(khz_payload_answer) == 24 && sizeof(khz_status_answer) == 16, "");' \
+        'int main() { return khz_reset(nullptr, 0) == KHZ_NO_TRACKER && khz_write_ihw(1, nullptr, 0) == KHZ_WRONG_LENGTH ? 0 : 1; }' >"$work/header.cc"
     strict_cxx -std=c++11 "$work/header.cc" "$archive" -o "$work/header"
     "$work/header"
 }
@@ -134,6 +136,27 @@ example_rust() {
     rustc -O --edition 2021 -D warnings examples/box.rs -L "$work" -l static=khandzorul -o "$work/box_rust"
     run_examples "$work/box_rust"
 }
+# A run of words from their fields: what is printed, how it ends, and the bytes, which were worked out by hand.
+run_writer() { # PROGRAM
+    ends 0 examples/write.out "$1"
+    ends 0 examples/write.out "$1" "$work/words"
+    sh tools/hex.sh <examples/write.hex | cmp - "$work/words"
+    ends 2 /dev/null "$1" "$work/nowhere/words"
+    ends 2 /dev/null "$1" "$work/words" "$work/words"
+    [ -w /dev/full ] || { echo 'without a full disk, since there is no /dev/full'; return 0; }
+    ended=0
+    "$1" >/dev/full 2>"$work/why" || ended=$?
+    [ "$ended" -eq 2 ] || { echo "$1: a full disk: exit status $ended, not 2"; exit 1; }
+    [ -s "$work/why" ] || { echo "$1: does not say that the disk is full"; exit 1; }
+}
+writer_c() {
+    strict_c -std=c99 examples/write.c "$archive" -o "$work/write_c"
+    run_writer "$work/write_c"
+}
+writer_rust() {
+    rustc -O --edition 2021 -D warnings examples/write.rs -L "$work" -l static=khandzorul -o "$work/write_rust"
+    run_writer "$work/write_rust"
+}
 # On a machine that is no x86-64: the archive that is shipped, in x86-64 programs, through the kit's emulator.
 shipped() {
     kit_x86 "$work/x86" target/staticlib/libkhandzorul.a tests/boundary.c
@@ -161,7 +184,14 @@ part 'the header in C' header_c
 if has "$cxx"; then part 'the header in C++' header_cxx; else left_out 'the header in C++' "no C++ compiler: $cxx"; fi
 part 'calls by example' by_example
 part 'examples/box.c' example_c
-if has rustc; then part 'examples/box.rs' example_rust; else left_out 'examples/box.rs' 'no rustc'; fi
+part 'examples/write.c' writer_c
+if has rustc; then
+    part 'examples/box.rs' example_rust
+    part 'examples/write.rs' writer_rust
+else
+    left_out 'examples/box.rs' 'no rustc'
+    left_out 'examples/write.rs' 'no rustc'
+fi
 if has python3; then
     part 'the library beside the given Rust' python3 tests/oracle/compare.py --lib "$archive" --keep "$work/oracle" --build "$rust"
     part 'the recorded answers of vectors' python3 tests/oracle/record.py --check --build "$rust"

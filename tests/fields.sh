@@ -48,6 +48,20 @@ id 232 TDH trigger_type 16 internal_trigger 1 no_data 0 continuation 0 trigger_b
 id 33 data word lane 1
 id 240 TDT packet_done 1 worst_lane_status 0
 END
+sh tools/hex.sh <examples/write.hex >"$work/in"
+try 'the words that examples/write.c writes' <<'END'
+id 224 IHW active_lanes 3 lanes_on 2
+id 232 TDH trigger_type 16 internal_trigger 1 no_data 0 continuation 0 trigger_bc 100 trigger_orbit 7
+id 248 CDW calibration_user_fields 20015998343868 calibration_word_index 0
+id 32 data word lane 0
+id 33 data word lane 1
+id 240 TDT packet_done 1 worst_lane_status 1
+id 232 TDH after packet done trigger_type 16 internal_trigger 1 no_data 0 continuation 0 trigger_bc 298 trigger_orbit 7
+id 32 data word lane 0
+id 33 data word lane 1
+id 240 TDT packet_done 1 worst_lane_status 0
+id 228 DDW0 index 0 worst_lane_status 1
+END
 hex 00000000 00000000 10000000 10000000
 try 'a bench file without packets' <<'END'
 this begins like a bench file, which ./check takes; for its words alone: tail -c +17 FILE | ./run fields

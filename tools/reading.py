@@ -44,7 +44,8 @@ def specs():
     wrong += [f'{p} is not there' for p in sorted(listed) if p not in there]
     serving = set(re.findall(r'^\| `([^`]*)`', tables[1][0], re.M))
     readers = [os.path.join(CRATES, p) for p in listed if p in there and p not in serving]
-    for p in readers + [os.path.join(CRATES, 'khandzorul', 'src', 'lib.rt')]:
+    exported = [p for p in files('.rt') if os.path.dirname(p) == os.path.join(CRATES, 'khandzorul', 'src')]
+    for p in readers + sorted(exported):
         wrong += [f'{os.path.relpath(p, CRATES)} cites {d}, which is said to serve the code alone' for d in sorted(cited(p) & serving)]
     return wrong
 

@@ -79,16 +79,10 @@ fn show_data_word(word: Word) {
     let id = word.id();
     text(b" data word");
     if id / 32 == 1 {
-        field(
-            b"lane",
-            words::data_words::ib_data_word_id_to_lane(id) as u64,
-        );
+        field(b"lane", data_ids::ib_data_word_id_to_lane(id) as u64);
     }
     if id / 32 == 2 {
-        field(
-            b"lane",
-            words::data_words::ob_data_word_id_to_lane(id) as u64,
-        );
+        field(b"lane", data_ids::ob_data_word_id_to_lane(id) as u64);
     }
 }
 

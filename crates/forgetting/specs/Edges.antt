@@ -8,7 +8,7 @@ use lib.ListN.{length}
 use Rattle.words.specs.declared.Word.{Word}
 use Rattle.words.specs.Tdh.{noData, triggerBc, internalTrigger}
 use Rattle.words.specs.Lanes.{laneStatus, worstLane}
-use Rattle.words.specs.DataIds.{outerLane}
+use Rattle.data_ids.specs.DataIds.{outerLane}
 use Rattle.payload_fsm.specs.declared.State.{State}
 use Rattle.payload_fsm.specs.declared.State.the-variants as S
 use Rattle.payload_fsm.specs.Settle.{DataClear, TdtDone, stateAfter}

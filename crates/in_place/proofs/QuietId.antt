@@ -9,11 +9,11 @@ use lib.Dec.{ltb, eqb}
 use lib.ListN.{length}
 use Rattle.words.specs.declared.Word.{Word}
 use Rattle.words.specs.Word.{wordOf, idOf}
-use Rattle.words.specs.DataIds.{isDataId, innerLane, outerLane, inputNumber}
+use Rattle.data_ids.specs.DataIds.{isDataId, innerLane, outerLane, inputNumber}
 use Rattle.words.specs.Lanes.{isLaneActive}
 use Rattle.words.proofs.Bits.{bits-below}
 use Rattle.words.proofs.Tests.{both}
-use Rattle.words.proofs.Table.{values, agree}
+use Rattle.data_ids.proofs.Table.{values, agree}
 use Rattle.payload_fsm.specs.declared.State.{State}
 use Rattle.payload_fsm.specs.declared.State.the-variants as S
 use Rattle.payload_fsm.specs.declared.ItsPayloadWord.the-variants as K

@@ -7,7 +7,7 @@ use mathlib.Core.List.{List}
 use lib.Dec.{leb, ltb, eqb}
 use lib.ListN.{length, getD, set}
 use Rattle.words.specs.Word.{wordBytes}
-use Rattle.words.specs.DataIds.{isDataId, innerLane, outerLane}
+use Rattle.data_ids.specs.DataIds.{isDataId, innerLane, outerLane}
 use Rattle.words.specs.Lanes.{isLaneActive}
 use Rattle.payload_fsm.specs.declared.State.{State}
 use Rattle.payload_fsm.specs.declared.State.the-variants as S

@@ -9,7 +9,7 @@ use Rattle.words.specs.Tdt.{tdtId, packetDone}
 use Rattle.words.specs.Ihw.{ihwId}
 use Rattle.words.specs.Ddw.{ddw0Id}
 use Rattle.words.specs.Cdw.{cdwId}
-use Rattle.words.specs.DataIds.{isDataId}
+use Rattle.data_ids.specs.DataIds.{isDataId}
 use Rattle.payload_fsm.specs.declared.State.{State}
 use Rattle.payload_fsm.specs.declared.State.the-variants as S
 use Rattle.payload_fsm.specs.declared.ItsPayloadWord.the-variants as K

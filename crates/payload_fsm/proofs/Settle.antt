@@ -10,7 +10,7 @@ use borrow.Author.Tests.{eq-eqb, ne-eqb}
 use Rattle.words.specs.declared.Word.{Word}
 use Rattle.words.specs.Word.{idOf}
 use Rattle.words.specs.Tdh.{noData}
-use Rattle.words.specs.DataIds.{isDataId}
+use Rattle.data_ids.specs.DataIds.{isDataId}
 use Rattle.payload_fsm.specs.declared.State.{State}
 use Rattle.payload_fsm.specs.declared.State.the-variants as S
 use Rattle.payload_fsm.specs.declared.ItsPayloadWord.the-variants as K

@@ -7,7 +7,7 @@ use Rattle.words.specs.declared.Word.{Word}
 use Rattle.words.specs.Word.{idOf}
 use Rattle.words.specs.Tdh.{noData}
 use Rattle.words.specs.Tdt.{tdtId, packetDone}
-use Rattle.words.specs.DataIds.{isDataId}
+use Rattle.data_ids.specs.DataIds.{isDataId}
 use Rattle.payload_fsm.specs.declared.State.{State}
 use Rattle.payload_fsm.specs.Step.{nextState}
 

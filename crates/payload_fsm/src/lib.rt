@@ -186,7 +186,7 @@ fn in_data(state: State, word: Word) -> Advanced
     if id == Cdw::ID {
         return taken(ItsPayloadWord::Cdw, state);
     }
-    if words::data_words::is_data_word_id(id) {
+    if data_ids::is_data_word_id(id) {
         return taken(ItsPayloadWord::DataWord, state);
     }
     guess(ItsPayloadWord::DataWord, state)

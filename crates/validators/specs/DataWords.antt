@@ -9,7 +9,7 @@ use lib.Dec.{ltb, eqb}
 use Rattle.words.specs.declared.Word.{Word}
 use Rattle.words.specs.Word.{idOf, slice}
 use Rattle.words.specs.Cdw.{cdwId, userFields, wordIndex}
-use Rattle.words.specs.DataIds.{isDataId, innerLane, outerLane, inputNumber}
+use Rattle.data_ids.specs.DataIds.{isDataId, innerLane, outerLane, inputNumber}
 use Rattle.words.specs.Lanes.{isLaneActive}
 use Rattle.payload_fsm.specs.declared.ItsPayloadWord.the-variants as K
 use Rattle.payload_fsm.specs.Step.{guessCode}

@@ -4,15 +4,15 @@ ghost use Rattle.records.specs.Records.{padded};
 ghost use Rattle.validators.specs.DataWords.{firstCdw, dataRows};
 use crate::Settings;
 use crate::StoredCdw;
+use data_ids::ib_data_word_id_to_lane;
+use data_ids::is_data_word_id;
+use data_ids::ob_data_word_id_to_input_number_connector;
+use data_ids::ob_data_word_id_to_lane;
 use records::MOST;
 use records::Row;
 use records::when;
 use words::Word;
 use words::cdw::Cdw;
-use words::data_words::ib_data_word_id_to_lane;
-use words::data_words::is_data_word_id;
-use words::data_words::ob_data_word_id_to_input_number_connector;
-use words::data_words::ob_data_word_id_to_lane;
 use words::util::is_lane_active;
 
 // A CDW as the first data of a packet.

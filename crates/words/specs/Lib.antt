@@ -6,4 +6,3 @@ pub mod Ihw
 pub mod Ddw
 pub mod Cdw
 pub mod Lanes
-pub mod DataIds

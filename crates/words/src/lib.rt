@@ -5,7 +5,6 @@ ghost use Prim.Native.Nat.{_+_, _-_, _^_, _<_, _≤_};
 ghost use Rattle.words.specs.Word.{wordOf, FromBufPost, idOf, bits, isSet};
 
 pub mod cdw;
-pub mod data_words;
 pub mod ddw;
 pub mod ihw;
 pub mod tdh;

@@ -13,7 +13,7 @@ use lib.ListN.{length, length-append, drop-of-length-le}
 use lib.Seq.{sets, sets-eq}
 use Rattle.words.specs.declared.Word.{Word}
 use Rattle.words.specs.Word.{wordOf, number, value, bits}
-use Rattle.words.specs.DataIds.{isDataId}
+use Rattle.data_ids.specs.DataIds.{isDataId}
 use Rattle.writer.specs.declared.Fields.{Fields}
 use Rattle.writer.specs.declared.Fields.the-variants as F
 use Rattle.writer.specs.declared.Packed.{Packed}

@@ -1,7 +1,7 @@
 // The word of each kind from its fields, or refusal 8 where one of them is too wide. The layouts are those of 01, "Words".
 ghost use mathlib.Core.Path.{_≡_};
 ghost use Prim.Native.Nat.{_+_, _*_, _/_, _%_, _<_};
-ghost use Rattle.words.specs.DataIds.{isDataId};
+ghost use Rattle.data_ids.specs.DataIds.{isDataId};
 ghost use Rattle.writer.specs.Write.{packed};
 ghost use Rattle.writer.specs.declared.Fields.the-variants as F;
 use crate::Packed;
@@ -161,7 +161,7 @@ fn is_data_id(id: u64) -> bool
     ensures { λ r. ⌜ r ≡ isDataId id ⌝ }
 {
     if id < 0x100 {
-        words::data_words::is_data_word_id(id as u8)
+        data_ids::is_data_word_id(id as u8)
     } else {
         false
     }

@@ -1,10 +1,10 @@
 -- `ob_data_word_id_to_lane` meets its contract: its table is the rule's 256 values, which antt computes.
 -- Assumes nothing.
 use borrow.Author.Needs.{needs}
-use Rattle.words.specs.DataIds.{outerLane}
-use Rattle.words.proofs.Table.{entry}
-use Rattle.words.proofs.data_words.ob_data_word_id_to_lane.Statement.{statement}
-use Rattle.words.proofs.data_words.ob_data_word_id_to_lane.Tie as tie
+use Rattle.data_ids.specs.DataIds.{outerLane}
+use Rattle.data_ids.proofs.Table.{entry}
+use Rattle.data_ids.proofs.ob_data_word_id_to_lane.Statement.{statement}
+use Rattle.data_ids.proofs.ob_data_word_id_to_lane.Tie as tie
 
 returns : tie.Need-returns
 returns c = entry outerLane 256 (c .args .id) (c .fits .id .fits)

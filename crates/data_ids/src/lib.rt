@@ -1,6 +1,6 @@
 // Data ids and the lanes behind them. 01, "Words", "Data ids"; the Rust's words/its/data_words.rs.
 ghost use mathlib.Core.Path.{_≡_};
-ghost use Rattle.words.specs.DataIds.{within, isDataId, innerLane, outerLane, inputNumber, connector, laneNumber};
+ghost use Rattle.data_ids.specs.DataIds.{within, isDataId, innerLane, outerLane, inputNumber, connector, laneNumber};
 
 // The outer lane of each id byte.
 const OB_LANES: [u8; 256] = [

@@ -1,8 +1,8 @@
--- `data_words::lane_id_to_lane_number` meets its contract.
+-- `lane_id_to_lane_number` meets its contract.
 -- Assumes nothing.
 use borrow.Author.Needs.{needs}
-use Rattle.words.proofs.data_words.lane_id_to_lane_number.Statement.{statement}
-use Rattle.words.proofs.data_words.lane_id_to_lane_number.Tie as tie
+use Rattle.data_ids.proofs.lane_id_to_lane_number.Statement.{statement}
+use Rattle.data_ids.proofs.lane_id_to_lane_number.Tie as tie
 
 returns : tie.Need-returns
 returns c = simp (c .before .if1 .taken, c .ib-data-word-id-to-lane .ensures)

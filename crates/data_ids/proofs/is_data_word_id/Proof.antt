@@ -1,8 +1,8 @@
--- `data_words::is_data_word_id` meets its contract.
+-- `is_data_word_id` meets its contract.
 -- Assumes nothing.
 use borrow.Author.Needs.{needs}
-use Rattle.words.proofs.data_words.is_data_word_id.Statement.{statement}
-use Rattle.words.proofs.data_words.is_data_word_id.Tie as tie
+use Rattle.data_ids.proofs.is_data_word_id.Statement.{statement}
+use Rattle.data_ids.proofs.is_data_word_id.Tie as tie
 
 returns : tie.Need-returns
 returns c = simp (c .before .before .before .before .within .ensures, c .before .before .before .within2 .ensures, c .before .before .within3 .ensures, c .before .within4 .ensures, c .within5 .ensures)

@@ -1,0 +1,2 @@
+-- Data ids, and the lanes and inputs behind them.
+pub mod DataIds
