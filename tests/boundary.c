@@ -365,11 +365,16 @@ static void written_fields(void)
                 writes(k, v, len, KHZ_WRONG_LENGTH, "another length");
         for (int i = 0; i < kinds[k].fields; i++) {
             const uint64_t last = v[i], wide[] = {last + 1, last + 1 + (last >> 1), UINT64_C(1) << 32, UINT64_C(1) << 63, UINT64_MAX};
+            /* each bit of the field, alone and beside all other fields at their width */
             for (int b = 0; b < width(k, i); b++) {
-                v[i] = UINT64_C(1) << b;
+                uint64_t alone[MOST_FIELDS] = {0};
+                alone[i] = v[i] = UINT64_C(1) << b;
                 snprintf(what, sizeof what, "bit %d of field %d", b, i);
                 writes(k, v, KHZ_WORD_BYTES, KHZ_DONE, what);
+                writes(k, alone, KHZ_WORD_BYTES, KHZ_DONE, what);
             }
+            v[i] = 0;
+            writes(k, v, KHZ_WORD_BYTES, KHZ_DONE, "one field 0");
             for (size_t j = 0; j < sizeof wide / sizeof *wide; j++) {
                 if (wide[j] <= last)
                     continue;
