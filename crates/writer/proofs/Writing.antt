@@ -7,6 +7,7 @@ use mathlib.Core.List.{List, [], _∷_, _++_, append-nil}
 use native.Mathlib.Nat.{div-div-eq-div-mul}
 use native.Mathlib.Omega.{arith}
 use lib.Dec.{ltb}
+use mir.Val.{boolByte}
 use borrow.Author.Tests.{lt-ltb, le-ltb, ltb-true, ltb-false, lt-leb, eq-eqb, ne-eqb}
 use Rattle.words.proofs.Load.{whole}
 use lib.ListN.{length, length-append, drop-of-length-le}
@@ -19,7 +20,7 @@ use Rattle.writer.specs.declared.Fields.the-variants as F
 use Rattle.writer.specs.declared.Packed.{Packed}
 use Rattle.writer.specs.declared.Packed.the-variants.{Is, Refused}
 use Rattle.writer.specs.Layout.{put, fit}
-use Rattle.writer.specs.Write.{fieldsFit, numberOf, written, wordFrom, packed, bytesOf, refusalOf, wordIn, PackPost, WritePost, Writes, WritesData, Bytes}
+use Rattle.writer.specs.Write.{flag, fieldsFit, numberOf, written, wordFrom, packed, bytesOf, refusalOf, wordIn, PackPost, WritePost, Writes, WritesData, Bytes}
 use Rattle.writer.proofs.Bytes.{number-bytes, bytes-number, number-more, number-below, more-bytes}
 use Rattle.writer.proofs.Round.{value-written}
 
@@ -98,6 +99,11 @@ data-fit i l h p = at (isDataId i) refl
     at : (b : Bool) → isDataId i ≡ b → fieldsFit (F.Data i l h) ≡ (ltb h 256 && isDataId i)
     at true e = simp (lt-ltb l (2 ^ 64) p, lt-ltb i 256 (data-byte i e), e, and-true)
     at false e = simp (e, and-false)
+
+-- A flag as the code makes it a number.
+pub flag-number : (b : Bool) → boolByte b ≡ flag b
+flag-number true = refl
+flag-number false = refl
 
 -- A data word's nine bytes, as they are read.
 pub data-low : (w : Word) → w .lo < 2 ^ 64 → w .lo ≡ bits 63 0 w

@@ -1,6 +1,6 @@
 // The fields of a word of each kind, by the readers of words.
 ghost use mathlib.Core.Path.{_≡_};
-ghost use Rattle.writer.specs.Write.{flag, fieldsIn};
+ghost use Rattle.writer.specs.Write.{fieldsIn};
 ghost use Rattle.writer.specs.declared.WordKind.the-variants as K;
 use crate::Fields;
 use words::Word;
@@ -9,12 +9,6 @@ use words::ddw::Ddw0;
 use words::ihw::Ihw;
 use words::tdh::Tdh;
 use words::tdt::Tdt;
-
-fn flag(b: bool) -> u64
-    ensures { λ r. ⌜ r ≡ flag b ⌝ }
-{
-    if b { 1 } else { 0 }
-}
 
 pub(crate) fn ihw(word: Word) -> Fields
     ensures { λ r. ⌜ r ≡ fieldsIn K.Ihw word ⌝ }
@@ -45,12 +39,12 @@ pub(crate) fn tdt(word: Word) -> Fields
     let tdt = Tdt { word: word };
     Fields::Tdt {
         lane_status: words::util::ddw0_tdt_lane_status_27_0(word),
-        timeout_to_start: flag(tdt.timeout_to_start()),
-        timeout_start_stop: flag(tdt.timeout_start_stop()),
-        timeout_in_idle: flag(tdt.timeout_in_idle()),
-        lane_starts_violation: flag(tdt.lane_starts_violation()),
-        transmission_timeout: flag(tdt.transmission_timeout()),
-        packet_done: flag(tdt.packet_done()),
+        timeout_to_start: tdt.timeout_to_start() as u64,
+        timeout_start_stop: tdt.timeout_start_stop() as u64,
+        timeout_in_idle: tdt.timeout_in_idle() as u64,
+        lane_starts_violation: tdt.lane_starts_violation() as u64,
+        transmission_timeout: tdt.transmission_timeout() as u64,
+        packet_done: tdt.packet_done() as u64,
     }
 }
 
@@ -60,8 +54,8 @@ pub(crate) fn ddw0(word: Word) -> Fields
     let ddw0 = Ddw0 { word: word };
     Fields::Ddw0 {
         lane_status: words::util::ddw0_tdt_lane_status_27_0(word),
-        lane_starts_violation: flag(ddw0.lane_starts_violation()),
-        transmission_timeout: flag(ddw0.transmission_timeout()),
+        lane_starts_violation: ddw0.lane_starts_violation() as u64,
+        transmission_timeout: ddw0.transmission_timeout() as u64,
         index: ddw0.index() as u64,
     }
 }

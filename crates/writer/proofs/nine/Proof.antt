@@ -17,4 +17,7 @@ returns c =
     c .load .ensures ∙ ap (λ (l : List ℕ). wordOf (l ++ (0 ∷ []))) (reads-all 0 9 0 b (omega arith))
 
 pub nine-spec : {M : Type 1} → statement M
-nine-spec = tie.close (tie.spec (search needs) (search needs) (search needs) (search needs) (search needs) (search needs) (search needs) (search needs) (search needs) (search needs) returns)
+nine-spec =
+    tie.close
+    (tie.spec (search needs) (search needs) (search needs) (search needs) (search needs) (search needs) (search needs) (search needs)
+    (search needs) (search needs) returns)
