@@ -22,11 +22,12 @@ use Rattle.validators.specs.declared.StoredTdh.{StoredTdh}
 use Rattle.validators.specs.declared.InternalTdh.{InternalTdh}
 use Rattle.validators.specs.declared.StoredCdw.{StoredCdw}
 use Rattle.validators.specs.DataWords.{firstCdw}
-use Rattle.cdp_running.specs.declared.StoredIhw.{StoredIhw}
-use Rattle.cdp_running.specs.declared.Frame.{Frame}
+use Rattle.stored.specs.declared.StoredIhw.{StoredIhw}
+use Rattle.stored.specs.declared.Frame.{Frame}
+use Rattle.stored.specs.Stored.{nextIhw, nextTdh, nextInternal, nextCdw, opens, closes, noFrame, nextFrame}
 use Rattle.cdp_running.specs.declared.Tracker.{Tracker}
-use Rattle.cdp_running.specs.Tracker.{Good, GoodIhw, GoodTdh, GoodInternal, GoodCdw, GoodFrame, startOf, resetOf, acceptOf, inRange, maxPosition, mostPosition, maxWords, positionOf, pastIhw, pastTdh, noPacket, noIhw, noTdh, noInternal, noCdw, noFrame}
-use Rattle.cdp_running.specs.Next.{nextIhw, nextTdh, nextInternal, nextCdw, nextFrame, opens, closes, nextOf}
+use Rattle.cdp_running.specs.Tracker.{Good, GoodIhw, GoodTdh, GoodInternal, GoodCdw, GoodFrame, startOf, resetOf, acceptOf, inRange, maxPosition, mostPosition, maxWords, positionOf, pastIhw, pastTdh, noPacket, noIhw, noTdh, noInternal, noCdw}
+use Rattle.cdp_running.specs.Next.{nextOf}
 use Rattle.cdp_running.specs.Word.{takenAs, positionNow}
 use Rattle.cdp_running.proofs.Presence.{comes}
 

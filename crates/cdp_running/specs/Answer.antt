@@ -4,8 +4,8 @@
 use Prim.Native.Nat.{ℕ}
 use mathlib.Core.Bool.{cond}
 use Rattle.payload_fsm.specs.Kinds.{kindNumber}
-use Rattle.cdp_running.specs.declared.FrameTold.{FrameTold}
-use Rattle.cdp_running.specs.declared.FrameTold.the-variants as F
+use Rattle.stored.specs.declared.FrameTold.{FrameTold}
+use Rattle.stored.specs.declared.FrameTold.the-variants as F
 use Rattle.cdp_running.specs.declared.Told.{Told}
 use Rattle.cdp_running.specs.declared.Told.the-variants.{Taken, Refused}
 

@@ -12,8 +12,9 @@ use Rattle.validators.specs.declared.Packet.{Packet}
 use Rattle.validators.specs.declared.StoredTdh.{StoredTdh}
 use Rattle.validators.specs.declared.InternalTdh.{InternalTdh}
 use Rattle.validators.specs.declared.StoredCdw.{StoredCdw}
-use Rattle.cdp_running.specs.declared.StoredIhw.{StoredIhw}
-use Rattle.cdp_running.specs.declared.Frame.{Frame}
+use Rattle.stored.specs.declared.StoredIhw.{StoredIhw}
+use Rattle.stored.specs.declared.Frame.{Frame}
+use Rattle.stored.specs.Stored.{noFrame}
 use Rattle.cdp_running.specs.declared.Tracker.{Tracker}
 use Rattle.cdp_running.specs.declared.PacketAnswer.{PacketAnswer}
 
@@ -32,9 +33,6 @@ noInternal = record { stored = false; bc = 0 }
 
 abbrev pub noCdw : StoredCdw
 noCdw = record { stored = false; user = 0 }
-
-abbrev pub noFrame : Frame
-noFrame = record { live = false; start = 0 }
 
 -- "Settings, fixed at the start": a period that is absent counts as 0.
 abbrev pub settingsOf : Settings → Settings

@@ -19,12 +19,13 @@ use Rattle.tdh_validator.specs.Tdh as Tdh
 use Rattle.validators.specs.Tdt as Tdt
 use Rattle.validators.specs.Ddw as Ddw
 use Rattle.validators.specs.DataWords as DataWords
+use Rattle.stored.specs.declared.FrameTold.{FrameTold}
+use Rattle.stored.specs.Stored.{frameTold, lanesTold}
 use Rattle.cdp_running.specs.declared.Tracker.{Tracker}
-use Rattle.cdp_running.specs.declared.FrameTold.{FrameTold}
 use Rattle.cdp_running.specs.declared.Told.the-variants.{Taken, Refused}
 use Rattle.cdp_running.specs.declared.WordAnswer.{WordAnswer}
 use Rattle.cdp_running.specs.Tracker.{Good, maxWords, positionOf}
-use Rattle.cdp_running.specs.Next.{nextOf, frameTold, lanesTold}
+use Rattle.cdp_running.specs.Next.{nextOf}
 
 -- What a word is taken as.
 abbrev pub takenAs : Tracker → Word → Advanced

@@ -6,7 +6,7 @@ ghost use Rattle.records.specs.Records.{padded};
 ghost use Rattle.cdp_running.specs.Tracker.{Good, settingsOf, startOf, resetOf, PacketPost, inRange, maxPosition, maxWords, positionOf};
 ghost use Rattle.cdp_running.specs.Word.{positionNow, rowsOf, Outcome, answerOf, WordPost};
 
-pub mod next;
+mod next;
 
 use payload_fsm::Advanced;
 use payload_fsm::ItsPayloadFsmContinuous;
@@ -14,6 +14,9 @@ use payload_fsm::ItsPayloadWord;
 use records::MOST;
 use records::Row;
 use records::Written;
+use stored::Frame;
+use stored::FrameTold;
+use stored::StoredIhw;
 use validators::InternalTdh;
 use validators::Packet;
 use validators::Settings;
@@ -40,18 +43,6 @@ pub const REFUSED_ROOM: u8 = 4;
 
 pub const REFUSED_PACKET: u8 = 5;
 
-// Of the IHW stored last, what is read again.
-pub struct StoredIhw {
-    pub stored: bool,
-    pub lanes: u32,
-}
-
-// Whether a frame is open, and where it started.
-pub struct Frame {
-    pub live: bool,
-    pub start: u64,
-}
-
 // All that is kept from one call to the next. What is absent is all zeros.
 pub struct Tracker {
     pub settings: Settings,
@@ -65,13 +56,6 @@ pub struct Tracker {
     pub internal: InternalTdh,
     pub cdw: StoredCdw,
     pub frame: Frame,
-}
-
-// What a word did to the frame.
-pub enum FrameTold {
-    Nothing,
-    Opened,
-    Closed { start: u64, end: u64 },
 }
 
 // What a word call tells: of a word that was taken, or the number of the refusal.

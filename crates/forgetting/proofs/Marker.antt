@@ -11,12 +11,13 @@ use Rattle.payload_fsm.specs.declared.Advanced.{Advanced}
 use Rattle.payload_fsm.specs.Step.{taken}
 use Rattle.payload_fsm.specs.Settle.{DataClear, TdtDone, stateAfter}
 use Rattle.payload_fsm.proofs.Settle.{AmongData, among, closes}
+use Rattle.stored.specs.Stored.{noFrame, nextFrame}
+use Rattle.stored.proofs.Replace.{frame-closed}
 use Rattle.cdp_running.specs.declared.Tracker.{Tracker}
-use Rattle.cdp_running.specs.Tracker.{Good, noFrame}
-use Rattle.cdp_running.specs.Next.{nextOf, nextFrame}
+use Rattle.cdp_running.specs.Tracker.{Good}
+use Rattle.cdp_running.specs.Next.{nextOf}
 use Rattle.cdp_running.specs.Word.{takenAs, positionNow}
 use Rattle.cdp_running.proofs.Good.{good-accept, good-next}
-use Rattle.cdp_running.proofs.Replace.{frame-closed}
 use Rattle.forgetting.specs.Calls.{Call, run}
 use Rattle.forgetting.specs.Forget.{AcceptedMarker}
 use Rattle.forgetting.proofs.Walk.{Walk, here, accepts, takes, walk-good, run-walk}

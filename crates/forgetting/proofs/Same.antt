@@ -16,14 +16,15 @@ use Rattle.validators.specs.declared.Packet.{Packet}
 use Rattle.validators.specs.declared.StoredTdh.{StoredTdh}
 use Rattle.validators.specs.declared.InternalTdh.{InternalTdh}
 use Rattle.validators.specs.declared.StoredCdw.{StoredCdw}
-use Rattle.cdp_running.specs.declared.StoredIhw.{StoredIhw}
-use Rattle.cdp_running.specs.declared.FrameTold.{FrameTold}
+use Rattle.stored.specs.declared.StoredIhw.{StoredIhw}
+use Rattle.stored.specs.declared.FrameTold.{FrameTold}
+use Rattle.stored.specs.Stored.{nextIhw, nextTdh, nextInternal, nextCdw}
+use Rattle.stored.proofs.Replace.{ihw-replaced, tdh-replaced, internal-replaced, cdw-replaced}
 use Rattle.cdp_running.specs.declared.Tracker.{Tracker}
 use Rattle.cdp_running.specs.Tracker.{maxWords}
-use Rattle.cdp_running.specs.Next.{nextOf, nextIhw, nextTdh, nextInternal, nextCdw}
+use Rattle.cdp_running.specs.Next.{nextOf}
 use Rattle.cdp_running.specs.Word.{takenAs, recordsOf, Outcome, taken, refused, takenOf, wordCall}
 use Rattle.cdp_running.proofs.Fine.{at-most-six}
-use Rattle.cdp_running.proofs.Replace.{ihw-replaced, tdh-replaced, internal-replaced, cdw-replaced}
 use Rattle.forgetting.specs.Calls.{Took}
 use Rattle.forgetting.specs.Forget.{asIhw, asInternalTdh, asFirstCdw, some, HasMet}
 

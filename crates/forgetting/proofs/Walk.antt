@@ -14,8 +14,8 @@ use Rattle.payload_fsm.specs.declared.ItsPayloadWord.{ItsPayloadWord}
 use Rattle.payload_fsm.specs.Settle.{stateAfter}
 use Rattle.records.specs.Records.{Record, room, Each}
 use Rattle.validators.specs.declared.Packet.{Packet}
+use Rattle.stored.specs.declared.FrameTold.{FrameTold}
 use Rattle.cdp_running.specs.declared.Tracker.{Tracker}
-use Rattle.cdp_running.specs.declared.FrameTold.{FrameTold}
 use Rattle.cdp_running.specs.declared.PacketAnswer.{PacketAnswer}
 use Rattle.cdp_running.specs.Tracker.{Good, acceptOf, resetOf, inRange, maxWords, packetCall}
 use Rattle.cdp_running.specs.Next.{nextOf}

@@ -23,10 +23,11 @@ use Rattle.records.specs.Records.{anyOn, silent}
 use Rattle.validators.specs.declared.Settings.{Settings}
 use Rattle.validators.specs.declared.StoredCdw.{StoredCdw}
 use Rattle.validators.specs.DataWords.{firstCdw, dataRows}
+use Rattle.stored.specs.declared.FrameTold.the-variants as F
+use Rattle.stored.specs.Stored.{frameTold, lanesTold}
 use Rattle.cdp_running.specs.declared.Tracker.{Tracker}
-use Rattle.cdp_running.specs.declared.FrameTold.the-variants as F
 use Rattle.cdp_running.specs.Tracker.{maxWords}
-use Rattle.cdp_running.specs.Next.{nextOf, frameTold, lanesTold}
+use Rattle.cdp_running.specs.Next.{nextOf}
 use Rattle.cdp_running.specs.Word.{Outcome, taken as taken-as, takenAs, positionNow, rowsOf, wordCall}
 use Rattle.payload.proofs.Run.{silent-call}
 use Rattle.tracker_array.specs.Read.{stateOf}

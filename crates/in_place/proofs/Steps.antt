@@ -21,15 +21,16 @@ use Rattle.records.specs.declared.Written.{Written}
 use Rattle.records.specs.declared.Written.the-variants.{Records, NoRoom}
 use Rattle.records.specs.Records.{given, flat, room, over, exceed, padded, silent, WritePost}
 use Rattle.records.proofs.Given.{given-padded, silent-padded, unheard}
+use Rattle.stored.specs.declared.Frame.{Frame}
+use Rattle.stored.specs.declared.FrameTold.{FrameTold}
+use Rattle.stored.specs.declared.FrameTold.the-variants as F
+use Rattle.stored.specs.Stored.{frameTold, lanesTold}
 use Rattle.cdp_running.specs.declared.Tracker.{Tracker}
-use Rattle.cdp_running.specs.declared.Frame.{Frame}
-use Rattle.cdp_running.specs.declared.FrameTold.{FrameTold}
-use Rattle.cdp_running.specs.declared.FrameTold.the-variants as F
 use Rattle.cdp_running.specs.declared.Told.{Told}
 use Rattle.cdp_running.specs.declared.Told.the-variants as T
 use Rattle.cdp_running.specs.declared.WordAnswer.{WordAnswer}
 use Rattle.cdp_running.specs.Tracker.{Good, maxWords}
-use Rattle.cdp_running.specs.Next.{nextOf, frameTold, lanesTold}
+use Rattle.cdp_running.specs.Next.{nextOf}
 use Rattle.cdp_running.specs.Word.{Outcome, taken, refused, takenAs, positionNow, rowsAs, rowsOf, recordsOf, takenAnswer, wordCall, answerOf, recordsIn, WordPost}
 use Rattle.cdp_running.proofs.Calls.{word-1, word-2, word-3, word-4, word-taken, of-word}
 use Rattle.tracker_array.specs.Array.{encodeOf}

@@ -19,10 +19,11 @@ use Rattle.validators.specs.declared.StoredTdh.{StoredTdh}
 use Rattle.validators.specs.declared.InternalTdh.{InternalTdh}
 use Rattle.validators.specs.declared.StoredCdw.{StoredCdw}
 use Rattle.validators.specs.DataWords.{firstCdw}
-use Rattle.cdp_running.specs.declared.Frame.{Frame}
+use Rattle.stored.specs.declared.Frame.{Frame}
+use Rattle.stored.specs.Stored.{noFrame}
 use Rattle.cdp_running.specs.declared.Tracker.{Tracker}
 use Rattle.validators.specs.declared.Packet.{Packet}
-use Rattle.cdp_running.specs.Tracker.{noFrame, acceptOf, resetOf}
+use Rattle.cdp_running.specs.Tracker.{acceptOf, resetOf}
 use Rattle.cdp_running.specs.Next.{nextOf}
 use Rattle.cdp_running.specs.Word.{positionNow}
 use Rattle.tracker_array.specs.Array.{packetNumbers, stateNumber, encodeOf}

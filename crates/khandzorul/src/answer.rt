@@ -5,8 +5,8 @@ ghost use Rattle.cdp_running.specs.declared.Told.the-variants as T;
 ghost use Rattle.cdp_running.specs.Answer.{frameNumber, frameStart, frameEnd};
 ghost use Rattle.khandzorul.specs.Answer.{toldNumbers};
 use crate::WordNumbers;
-use cdp_running::FrameTold;
 use cdp_running::Told;
+use stored::FrameTold;
 
 fn flag(b: bool) -> u64
     ensures { λ r. ⌜ r ≡ cond b 1 0 ⌝ }

@@ -14,8 +14,8 @@ use Rattle.payload_fsm.specs.declared.ItsPayloadWord.{ItsPayloadWord}
 use Rattle.records.specs.Records.{Record, flat, room, over}
 use Rattle.records.proofs.Given.{flat-append, length-flat}
 use Rattle.records.proofs.Buffer.{mid-tail, lent-on, over-fits}
+use Rattle.stored.specs.declared.FrameTold.{FrameTold}
 use Rattle.cdp_running.specs.declared.Tracker.{Tracker}
-use Rattle.cdp_running.specs.declared.FrameTold.{FrameTold}
 use Rattle.cdp_running.specs.declared.Told.the-variants.{Taken, Refused}
 use Rattle.cdp_running.specs.declared.WordAnswer.{WordAnswer}
 use Rattle.cdp_running.specs.Tracker.{Good}

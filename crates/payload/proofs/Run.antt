@@ -12,10 +12,11 @@ use Rattle.words.specs.Word.{wordOf}
 use Rattle.payload_fsm.specs.declared.ItsPayloadWord.{ItsPayloadWord}
 use Rattle.records.specs.Records.{Record, silent}
 use Rattle.records.proofs.Given.{unheard}
+use Rattle.stored.specs.declared.FrameTold.{FrameTold}
+use Rattle.stored.specs.Stored.{frameTold, lanesTold}
 use Rattle.cdp_running.specs.declared.Tracker.{Tracker}
-use Rattle.cdp_running.specs.declared.FrameTold.{FrameTold}
 use Rattle.cdp_running.specs.Tracker.{maxWords}
-use Rattle.cdp_running.specs.Next.{nextOf, frameTold, lanesTold}
+use Rattle.cdp_running.specs.Next.{nextOf}
 use Rattle.cdp_running.specs.Word.{takenAs, positionNow, rowsOf, recordsOf, taken, refused, takenOf, wordCall}
 use Rattle.payload.specs.Payload.{Run, stop, preceded, wordsFrom}
 

@@ -10,8 +10,8 @@ use lib.ListN.{length, take, drop}
 use Rattle.words.specs.Word.{wordBytes}
 use Rattle.records.specs.Records.{Record, flat, room, over}
 use Rattle.payload_fsm.specs.declared.ItsPayloadWord.{ItsPayloadWord}
+use Rattle.stored.specs.declared.FrameTold.{FrameTold}
 use Rattle.cdp_running.specs.declared.Tracker.{Tracker}
-use Rattle.cdp_running.specs.declared.FrameTold.{FrameTold}
 use Rattle.cdp_running.specs.Tracker.{Good}
 use Rattle.cdp_running.specs.Word.{Outcome, taken, refused, wordCall}
 use Rattle.payload.specs.declared.PayloadAnswer.{PayloadAnswer}

@@ -12,8 +12,8 @@ use Rattle.validators.specs.declared.Packet.{Packet}
 use Rattle.validators.specs.declared.StoredTdh.{StoredTdh}
 use Rattle.validators.specs.declared.InternalTdh.{InternalTdh}
 use Rattle.validators.specs.declared.StoredCdw.{StoredCdw}
-use Rattle.cdp_running.specs.declared.StoredIhw.{StoredIhw}
-use Rattle.cdp_running.specs.declared.Frame.{Frame}
+use Rattle.stored.specs.declared.StoredIhw.{StoredIhw}
+use Rattle.stored.specs.declared.Frame.{Frame}
 use Rattle.cdp_running.specs.declared.Tracker.{Tracker}
 use Rattle.cdp_running.specs.Tracker.{inRange, maxWords, mostPosition, pastIhw, pastTdh}
 use Rattle.tracker_array.specs.Array.{size, mark}

@@ -8,9 +8,9 @@ ghost use Rattle.tracker_array.specs.Array.{size, mark, flag, stateNumbe
 use crate::MARK;
 use crate::place;
 use crate::states;
-use cdp_running::Frame;
-use cdp_running::StoredIhw;
 use payload_fsm::State;
+use stored::Frame;
+use stored::StoredIhw;
 use validators::InternalTdh;
 use validators::Packet;
 use validators::Settings;

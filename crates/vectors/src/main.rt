@@ -3,9 +3,9 @@
 ghost use Prim.Native.Nat.{_+_, _<_, _≤_};
 ghost use lib.ListN.{length};
 ghost use Rattle.cdp_running.specs.Tracker.{Good};
-use cdp_running::FrameTold;
 use cdp_running::Told;
 use cdp_running::Tracker;
+use stored::FrameTold;
 use validators::Packet;
 use validators::Settings;
 

@@ -1,8 +1,8 @@
 -- `next::lanes_told` meets its contract.
 -- Assumes nothing.
 use borrow.Author.Needs.{needs}
-use Rattle.cdp_running.proofs.next.lanes_told.Statement.{statement}
-use Rattle.cdp_running.proofs.next.lanes_told.Tie as tie
+use Rattle.stored.proofs.next.lanes_told.Statement.{statement}
+use Rattle.stored.proofs.next.lanes_told.Tie as tie
 
 returns : tie.Need-returns
 returns c = simp (← c .before .before .is-ihw .ensures, c .before .if1 .taken, c .read .ensures)

@@ -1,8 +1,8 @@
 -- `next::opens` meets its contract.
 -- Assumes nothing.
 use borrow.Author.Needs.{needs}
-use Rattle.cdp_running.proofs.next.opens.Statement.{statement}
-use Rattle.cdp_running.proofs.next.opens.Tie as tie
+use Rattle.stored.proofs.next.opens.Statement.{statement}
+use Rattle.stored.proofs.next.opens.Tie as tie
 
 returns : tie.Need-returns
 returns c = simp (c .before .continuation .ensures, c .before .before .is-tdh .ensures)

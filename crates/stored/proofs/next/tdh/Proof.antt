@@ -1,8 +1,8 @@
 -- `next::tdh` meets its contract.
 -- Assumes nothing.
 use borrow.Author.Needs.{needs}
-use Rattle.cdp_running.proofs.next.tdh.Statement.{statement}
-use Rattle.cdp_running.proofs.next.tdh.Tie as tie
+use Rattle.stored.proofs.next.tdh.Statement.{statement}
+use Rattle.stored.proofs.next.tdh.Tie as tie
 
 returns : tie.Need-returns
 returns c = simp (← c .before .before .before .before .is-tdh .ensures, c .before .before .before .if1 .taken, c .before .before .trigger-type .ensures, c .before .trigger-bc .ensures, c .trigger-orbit .ensures)

@@ -1,8 +1,8 @@
 -- `next::internal` meets its contract.
 -- Assumes nothing.
 use borrow.Author.Needs.{needs}
-use Rattle.cdp_running.proofs.next.internal.Statement.{statement}
-use Rattle.cdp_running.proofs.next.internal.Tie as tie
+use Rattle.stored.proofs.next.internal.Statement.{statement}
+use Rattle.stored.proofs.next.internal.Tie as tie
 
 returns : tie.Need-returns
 returns c = simp (← c .before .before .before .is-tdh .ensures, ← c .before .before .internal-trigger .ensures, c .before .if1 .taken, c .trigger-bc .ensures)

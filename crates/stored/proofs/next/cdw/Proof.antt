@@ -1,8 +1,8 @@
 -- `next::cdw` meets its contract.
 -- Assumes nothing.
 use borrow.Author.Needs.{needs}
-use Rattle.cdp_running.proofs.next.cdw.Statement.{statement}
-use Rattle.cdp_running.proofs.next.cdw.Tie as tie
+use Rattle.stored.proofs.next.cdw.Statement.{statement}
+use Rattle.stored.proofs.next.cdw.Tie as tie
 
 returns : tie.Need-returns
 returns c = simp (← c .before .before .before .is-data .ensures, ← c .before .before .is-first-cdw .ensures, c .before .if1 .taken, c .calibration-user-fields .ensures)

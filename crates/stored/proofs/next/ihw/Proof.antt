@@ -1,8 +1,8 @@
 -- `next::ihw` meets its contract.
 -- Assumes nothing.
 use borrow.Author.Needs.{needs}
-use Rattle.cdp_running.proofs.next.ihw.Statement.{statement}
-use Rattle.cdp_running.proofs.next.ihw.Tie as tie
+use Rattle.stored.proofs.next.ihw.Statement.{statement}
+use Rattle.stored.proofs.next.ihw.Tie as tie
 
 returns : tie.Need-returns
 returns c = simp (← c .before .before .is-ihw .ensures, c .before .if1 .taken, c .active-lanes .ensures)

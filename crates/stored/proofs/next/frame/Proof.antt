@@ -1,8 +1,8 @@
 -- `next::frame` meets its contract.
 -- Assumes nothing.
 use borrow.Author.Needs.{needs}
-use Rattle.cdp_running.proofs.next.frame.Statement.{statement}
-use Rattle.cdp_running.proofs.next.frame.Tie as tie
+use Rattle.stored.proofs.next.frame.Statement.{statement}
+use Rattle.stored.proofs.next.frame.Tie as tie
 
 returns : tie.Need-returns
 returns c = simp (← c .before .opens .ensures, c .if1 .taken)

@@ -1,8 +1,8 @@
 -- `next::closes` meets its contract.
 -- Assumes nothing.
 use borrow.Author.Needs.{needs}
-use Rattle.cdp_running.proofs.next.closes.Statement.{statement}
-use Rattle.cdp_running.proofs.next.closes.Tie as tie
+use Rattle.stored.proofs.next.closes.Statement.{statement}
+use Rattle.stored.proofs.next.closes.Tie as tie
 
 returns : tie.Need-returns
 returns c = simp (c .packet-done .ensures, c .before .is-tdt .ensures)

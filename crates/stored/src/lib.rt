@@ -1,0 +1,21 @@
+// What is kept of the words of a link: the last IHW, TDH, internal TDH and CDW, and the open frame. 01, "Records": what is stored where.
+pub mod next;
+
+// Of the IHW stored last, what is read again.
+pub struct StoredIhw {
+    pub stored: bool,
+    pub lanes: u32,
+}
+
+// Whether a frame is open, and where it started.
+pub struct Frame {
+    pub live: bool,
+    pub start: u64,
+}
+
+// What a word did to the frame.
+pub enum FrameTold {
+    Nothing,
+    Opened,
+    Closed { start: u64, end: u64 },
+}
