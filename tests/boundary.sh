@@ -100,6 +100,13 @@ ends() { # STATUS OUTPUT-FILE PROGRAM [ARGUMENT..]: how it ends and what it prin
     diff "$work/printed" "$printed"
     [ -s "$work/printed" ] || [ -s "$work/why" ] || { echo "$*: does not say why it prints nothing"; exit 1; }
 }
+on_a_full_disk() { # PROGRAM [ARGUMENT..]: it ends with 2 and says why
+    [ -w /dev/full ] || { echo 'without a full disk, since there is no /dev/full'; return 0; }
+    ended=0
+    "$@" >/dev/full 2>"$work/why" || ended=$?
+    [ "$ended" -eq 2 ] || { echo "$*: a full disk: exit status $ended, not 2"; exit 1; }
+    [ -s "$work/why" ] || { echo "$*: does not say that the disk is full"; exit 1; }
+}
 example() { # PROGRAM STATUS NAME
     sh tools/hex.sh <"examples/$3.hex" >"$work/file"
     ends "$2" "examples/$3.out" "$1" "$work/file"
@@ -121,12 +128,8 @@ run_examples() { # PROGRAM
     ends 2 /dev/null "$1" "$work"
     ends 2 /dev/null "$1"
     ends 2 /dev/null "$1" "$work/file" "$work/file"
-    [ -w /dev/full ] || { echo 'without a full disk, since there is no /dev/full'; return 0; }
-    ended=0
     sh tools/hex.sh <examples/clean.hex >"$work/file"
-    "$1" "$work/file" >/dev/full 2>"$work/why" || ended=$?
-    [ "$ended" -eq 2 ] || { echo "$1: a full disk: exit status $ended, not 2"; exit 1; }
-    [ -s "$work/why" ] || { echo "$1: does not say that the disk is full"; exit 1; }
+    on_a_full_disk "$1" "$work/file"
 }
 example_c() {
     strict_c -std=c99 examples/box.c "$archive" -o "$work/box_c"
@@ -143,11 +146,7 @@ run_writer() { # PROGRAM
     sh tools/hex.sh <examples/write.hex | cmp - "$work/words"
     ends 2 /dev/null "$1" "$work/nowhere/words"
     ends 2 /dev/null "$1" "$work/words" "$work/words"
-    [ -w /dev/full ] || { echo 'without a full disk, since there is no /dev/full'; return 0; }
-    ended=0
-    "$1" >/dev/full 2>"$work/why" || ended=$?
-    [ "$ended" -eq 2 ] || { echo "$1: a full disk: exit status $ended, not 2"; exit 1; }
-    [ -s "$work/why" ] || { echo "$1: does not say that the disk is full"; exit 1; }
+    on_a_full_disk "$1"
 }
 writer_c() {
     strict_c -std=c99 examples/write.c "$archive" -o "$work/write_c"
