@@ -153,6 +153,23 @@ static void setting_ranges(void)
     expect(memcmp(before, t, sizeof t) == 0, "a period that is not set is kept");
 }
 
+/* Running checks without frames: the records of the whole case, and no frame. Frames without running checks: its frames, and no record, since each of
+ * the three comes with running checks alone. */
+static void settings_apart(void)
+{
+    uint64_t t[KHZ_TRACKER_WORDS], records[KHZ_RECORDS_PER_WORD * KHZ_RECORD_NUMBERS];
+
+    for (uint64_t running = 0; running < 2; running++) {
+        expect(khz_start(t, KHZ_TRACKER_WORDS, running, 1 - running, 1, 198) == KHZ_DONE, "khz_start is refused");
+        expect(khz_packet(t, KHZ_TRACKER_WORDS, 0, 7, 0x10, 3564, 0, 0, 2) == KHZ_DONE, "the packet of the whole case is refused");
+        for (int i = 0; i < 5; i++) {
+            khz_word_answer a = khz_word(t, KHZ_TRACKER_WORDS, whole_case + CASE_WORDS + 10 * i, KHZ_WORD_BYTES, records, sizeof records / sizeof *records);
+            expect(a.refusal == KHZ_DONE && a.records == (running ? case_answers[i][1] : 0), "records with frames off, or with running checks off");
+            expect(a.frame == (running ? KHZ_FRAME_NONE : case_answers[i][2]), "frames with frames off, or with running checks off");
+        }
+    }
+}
+
 /* Lengths that are too large, by one and by what a conversion to 32 bits would cut off. 100 comes before 5 and before 1. */
 static void lengths(void)
 {
@@ -482,6 +499,7 @@ int main(void)
     case_by_payload();
     packet_ranges();
     setting_ranges();
+    settings_apart();
     lengths();
     versions();
     files();
