@@ -98,7 +98,7 @@ enum khz_refusal {
     KHZ_PACKET_FIELD = 5,                        /* a packet's field is out of its range */
     KHZ_FILE_SHAPE = 6,                          /* a file is under 16 or over 60,000 bytes, or its offsets or length are not as stated */
     KHZ_FILE_COUNT = 7,                          /* the packets' word counts do not sum to the header's */
-    KHZ_WORD_FIELD = 8,                          /* a field to be written is wider than its bits, or a data word's id is no data id */
+    KHZ_WORD_FIELD = 8,                          /* a field to be written is wider than its bits, or a data word's id is no data id or its bytes not 9 */
     KHZ_NO_TRACKER = 100,                        /* tracker_len is not KHZ_TRACKER_WORDS, or the array holds no tracker (all zeros is none) */
     KHZ_NO_SETTINGS = 101                        /* a flag is neither 0 nor 1, or periodic is 1 and the period above 65,535 */
 };

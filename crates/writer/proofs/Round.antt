@@ -17,9 +17,9 @@ use Rattle.writer.specs.declared.WordKind.{WordKind}
 use Rattle.writer.specs.declared.WordKind.the-variants as K
 use Rattle.writer.specs.declared.Fields.{Fields}
 use Rattle.writer.specs.declared.Fields.the-variants as F
-use Rattle.writer.specs.Layout.{layout, tiles, put, fit, get, right}
+use Rattle.writer.specs.Layout.{layout, tiles, put, fit, right}
 use Rattle.writer.specs.Write.{flag, kindOf, valuesOf, fieldsIn, idFits, fieldsFit, bytesOf, numberOf, written, isRight, Bytes, RoundTrip}
-use Rattle.writer.proofs.Parts.{put-below, gets, puts, got-fit}
+use Rattle.writer.proofs.Parts.{get, put-below, gets, puts, got-fit}
 use Rattle.writer.proofs.Bytes.{bytes-long, bytes-small, number-bytes, bytes-number}
 
 -- Every bit of a word of each kind is in one part: antt computes it.

@@ -83,7 +83,14 @@ cdw-fit u j = simp and-true
 -- A data id is a byte, so that no other number is one.
 pub no-byte : (id : ℕ) → 256 ≤ id → isDataId id ≡ false
 no-byte id h =
-    simp (lt-leb id 0x28 (omega arith), lt-leb id 0x46 (omega arith), lt-leb id 0x4E (omega arith), lt-leb id 0x56 (omega arith), lt-leb id 0x5E (omega arith), and-false)
+    simp (
+      lt-leb id 0x28 (omega arith),
+      lt-leb id 0x46 (omega arith),
+      lt-leb id 0x4E (omega arith),
+      lt-leb id 0x56 (omega arith),
+      lt-leb id 0x5E (omega arith),
+      and-false,
+    )
 
 pub data-byte : (id : ℕ) → isDataId id ≡ true → id < 256
 data-byte id e = at (ltb id 256) refl
@@ -136,8 +143,8 @@ pub ten : (w : Word) → w .lo < 2 ^ 64 → w .hi < 2 ^ 16 → tenBytes w ≡ by
 unfolding bytesOf
 ten w lo hi =
     simp div-div-eq-div-mul
-    (same (omega arith)
-    (same (omega arith) (same (omega arith) (same (omega arith) (same (omega arith) (same (omega arith) (same (omega arith) (same (omega arith) (same (omega arith) (same (omega arith) refl))))))))))
+    (same (omega arith) (same (omega arith) (same (omega arith) (same (omega arith) (same (omega arith)
+    (same (omega arith) (same (omega arith) (same (omega arith) (same (omega arith) (same (omega arith) refl))))))))))
   where
     same : {a b : ℕ} {xs ys : List ℕ} → a ≡ b → xs ≡ ys → a ∷ xs ≡ b ∷ ys
     same = ap₂ _∷_

@@ -70,12 +70,6 @@ fit (field h l ∷ ps) [] = false
 fit (field h l ∷ ps) (v ∷ vs) = ltb v (2 ^ (h + 1 - l)) && fit ps vs
 fit (fixed h l v ∷ ps) vs = fit ps vs
 
--- What is read: the bits of each field.
-abbrev pub get : List Part → Word → List ℕ
-get [] w = []
-get (field h l ∷ ps) w = bits h l w ∷ get ps w
-get (fixed h l v ∷ ps) w = get ps w
-
 -- The fixed bits are as they must be: "the reserved bits were 0 and the id right".
 abbrev pub right : List Part → Word → Bool
 right [] w = true

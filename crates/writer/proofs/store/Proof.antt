@@ -38,6 +38,7 @@ returns c =
 pub store-spec : {M : Type 1} → statement M
 store-spec =
     tie.close
-    (tie.spec (λ c. search needs) (λ c. search needs) (λ c. search needs) (λ c. search needs) (λ c. search needs) (λ c. search needs) (λ c. search needs) (λ c. search needs)
-    (λ c. search needs) slice-write-out-5 (λ c. search needs) slice-write-out-6 (λ c. search needs) slice-write-out-7 (λ c. search needs) slice-write-out-8 (λ c. search needs)
-    slice-write-out-9 (λ c. search needs) slice-write-out-10 same-length returns)
+    (tie.spec (λ c. search needs) (λ c. search needs) (λ c. search needs) (λ c. search needs) (λ c. search needs) (λ c. search needs)
+    (λ c. search needs) (λ c. search needs) (λ c. search needs) slice-write-out-5 (λ c. search needs) slice-write-out-6 (λ c. search needs)
+    slice-write-out-7 (λ c. search needs) slice-write-out-8 (λ c. search needs) slice-write-out-9 (λ c. search needs) slice-write-out-10
+    same-length returns)
