@@ -16,6 +16,8 @@ use Rattle.bench_file.specs.File.{headerBytes, mostBytes, packets, words
 pub record Fitting (file : List ℕ) : Type 0 where
   pub long : headerBytes ≤ length file
   pub short : length file ≤ mostBytes
+  pub packets-at : packetOffset file ≡ headerBytes
+  pub words-at : wordOffset file ≡ packetPlace (packets file)
   pub whole : length file ≡ wordPlace file (words file)
 
 or-false : (a b : Bool) → a || b ≡ false → (a ≡ false) × (b ≡ false)
@@ -31,7 +33,14 @@ fitting file e =
     let d = or-false (not (eqb (wordOffset file) (packetPlace (packets file)))) _ (c .1) in
     let offset = eqb-true _ _ (not-false (eqb (wordOffset file) (packetPlace (packets file))) (d .0)) in
     let end = eqb-true _ _ (not-false (eqb (length file) (wordOffset file + wordBytes * words file)) (d .1)) in
-    record { long = ltb-false _ _ (a .0); short = ltb-false _ _ (b .0); whole = end ∙ ap (λ (n : ℕ). n + wordBytes * words file) offset }
+    let start = eqb-true _ _ (not-false (eqb (packetOffset file) headerBytes) (c .0)) in
+    record {
+      long = ltb-false _ _ (a .0);
+      short = ltb-false _ _ (b .0);
+      packets-at = start;
+      words-at = offset;
+      whole = end ∙ ap (λ (n : ℕ). n + wordBytes * words file) offset;
+    }
 
 -- One packet more in the sum.
 pub one-more : (file : List ℕ) (i : ℕ) → wordsBefore file (i + 1) ≡ wordsBefore file i + countAt file i

@@ -20,7 +20,7 @@ use Rattle.bench_file.specs.declared.Found.the-variants as F
 use Rattle.bench_file.specs.File.{packets, words, packetPlace, packetAt, countAt, wordPlace, bytesAt, wordsBefore, misfit, packetRefusal, firstRefusal, checkOf}
 use Rattle.bench_file.specs.Items.{Item, packet, word, wordItems, packetItems, items, itemsFrom}
 use Rattle.bench_file.specs.Reader.{readerAt, hasPacket, hasWord, wordFound, pastPacket, pastWord, nextOf, Gives, end, packet-first, then-word, Sound, Place}
-use Rattle.bench_file.proofs.Checking.{fitting, one-more}
+use Rattle.bench_file.proofs.Checking.{Fitting, fitting, one-more}
 use Rattle.bench_file.proofs.Finding.{packet-in, packet-past, packet-found, packet-end, past-packet, word-in, word-found, past-word}
 
 -- While words are left, a word is asked for.
@@ -67,12 +67,16 @@ none-first file (suc n) i e j h k =
     (λ (s : i < j). none-first file n (suc i) (here .1) j s (omega arith))
     (eq-or-lt-of-le h)
 
+-- A file that is not refused has the length and the offsets of a file.
+pub fits : (file : List ℕ) → checkOf file ≡ 0 → Fitting file
+unfolding checkOf
+fits file e = fitting file (no-misfit (misfit file) _ e .0)
+
 pub sound : (file : List ℕ) → checkOf file ≡ 0 → Sound file
 unfolding checkOf
 sound file e =
-    let fits = no-misfit (misfit file) _ e in
-    let sums = taken (eqb (wordsBefore file (packets file)) (words file)) _ 6 (fits .1) in
-    let f = fitting file (fits .0) in
+    let sums = taken (eqb (wordsBefore file (packets file)) (words file)) _ 6 (no-misfit (misfit file) _ e .1) in
+    let f = fits file e in
     let none : (i : ℕ) → i < packets file → packetRefusal file (packetPlace i) ≡ 0 = λ i h. none-first file (packets file) 0 (sums .1) i (omega arith) (omega arith) in
     record {
       short = f .short;
@@ -86,23 +90,23 @@ sound file e =
     }
 
 -- The packets before a later packet have no fewer words.
-more-words : (file : List ℕ) (i k : ℕ) → wordsBefore file i ≤ wordsBefore file (i + k)
+pub more-words : (file : List ℕ) (i k : ℕ) → wordsBefore file i ≤ wordsBefore file (i + k)
 unfolding wordsBefore
 more-words file i zero = rw (add-zero i) (omega arith)
 more-words file i (suc k) = rw (add-suc i k) (omega (arith, more-words file i k))
 
 module _ {file : List ℕ} (s : Sound file) where
-  words-at-most : (i : ℕ) → i ≤ packets file → wordsBefore file i ≤ words file
+  pub words-at-most : (i : ℕ) → i ≤ packets file → wordsBefore file i ≤ words file
   words-at-most i h =
       let e : i + (packets file - i) ≡ packets file = omega arith in
       let m = more-words file i (packets file - i) in
       let k : wordsBefore file (i + (packets file - i)) ≡ words file = ap (wordsBefore file) e ∙ s .sum in
       omega arith
 
-  word-here : (n : ℕ) → n < words file → hasWord file n ≡ true
+  pub word-here : (n : ℕ) → n < words file → hasWord file n ≡ true
   word-here n h = word-in file n h (s .inside n h)
 
-  packet-here : (i : ℕ) → i < packets file → hasPacket file i ≡ true
+  pub packet-here : (i : ℕ) → i < packets file → hasPacket file i ≡ true
   packet-here i h =
       let w = s .whole in
       packet-in file i h (omega arith)

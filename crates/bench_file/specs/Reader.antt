@@ -13,12 +13,16 @@ use Rattle.cdp_running.specs.Tracker.{inRange, maxWords}
 use Rattle.bench_file.specs.declared.FileReader.{FileReader}
 use Rattle.bench_file.specs.declared.Found.{Found}
 use Rattle.bench_file.specs.declared.Found.the-variants as F
-use Rattle.bench_file.specs.File.{mostBytes, packetBytes, packets, words, packetPlace, packetAt, countAt, wordPlace, bytesAt, wordsBefore}
+use Rattle.bench_file.specs.File.{mostBytes, headerBytes, packetBytes, field, packets, words, packetPlace, packetAt, countAt, wordPlace, bytesAt, wordsBefore}
 use Rattle.bench_file.specs.Items.{Item, packet, word}
 
 -- A reader at a place: the file's bytes, the next packet and the next word.
 abbrev pub readerAt : RefT (List ℕ) → ℕ → ℕ → FileReader
 readerAt bytes i n = record { bytes = bytes; packet = i; word = n }
+
+-- A number of the header, for who asks it of any bytes: `packets` is at 0 and `words` at 4. In fewer bytes than a header has it is 0.
+unfoldable pub headerNumber : List ℕ → ℕ → ℕ
+headerNumber file at = cond (ltb (length file) headerBytes) 0 (field file at 4)
 
 -- Whether there is a packet i, a word n: the header counts it, and its bytes lie in the file.
 abbrev pub hasPacket : List ℕ → ℕ → Bool

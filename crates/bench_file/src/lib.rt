@@ -1,10 +1,10 @@
 // The bench file: whether bytes are one, and a reader that gives its packets and words in order.
 // Document 01, "Bench file", and the refusals 6, 7, 5, 3 of a file.
 ghost use mathlib.Core.Path.{_≡_};
-ghost use Prim.Native.Nat.{_+_, _≤_};
+ghost use Prim.Native.Nat.{_+_, _<_, _≤_, _^_};
 ghost use lib.ListN.{length};
-ghost use Rattle.bench_file.specs.File.{packetBytes, packetPlace, packetOf, wordsBefore, misfit, refusalBy, packetRefusal, firstRefusal, checkOf};
-ghost use Rattle.bench_file.specs.Reader.{readerAt, hasPacket, hasWord, pastPacket, pastWord, afterPacket, afterWord, NextPacketPost, NextWordPost, NextPost};
+ghost use Rattle.bench_file.specs.File.{headerBytes, packetBytes, packetPlace, packetOf, wordsBefore, misfit, refusalBy, packetRefusal, firstRefusal, checkOf};
+ghost use Rattle.bench_file.specs.Reader.{readerAt, headerNumber, hasPacket, hasWord, pastPacket, pastWord, afterPacket, afterWord, NextPacketPost, NextWordPost, NextPost};
 
 mod little_endian;
 
@@ -144,6 +144,34 @@ pub fn check(file: &[u8]) -> u8
     first_refusal(file, packets)
 }
 
+// A number of the header; in fewer bytes than a header has, 0.
+fn header_number(file: &[u8], at: usize) -> u64
+    requires { ⌜ at + 4 ≤ headerBytes ⌝ }
+    ensures { λ r. ⌜ r ≡ headerNumber (now (file .entry)) at ⌝ }
+    ensures { λ r. ⌜ r < 2 ^ 32 ⌝ }
+{
+    if file.len() < HEADER_BYTES {
+        return 0;
+    }
+    get32(file, at)
+}
+
+// How many packets the header counts.
+pub fn packet_count(file: &[u8]) -> u64
+    ensures { λ r. ⌜ r ≡ headerNumber (now (file .entry)) 0 ⌝ }
+    ensures { λ r. ⌜ r < 2 ^ 32 ⌝ }
+{
+    header_number(file, 0)
+}
+
+// How many words it counts.
+pub fn word_count(file: &[u8]) -> u64
+    ensures { λ r. ⌜ r ≡ headerNumber (now (file .entry)) 4 ⌝ }
+    ensures { λ r. ⌜ r < 2 ^ 32 ⌝ }
+{
+    header_number(file, 4)
+}
+
 // Whether the header counts a packet and its bytes lie in the file.
 fn has_packet(file: &[u8], packet: usize) -> bool
     ensures { λ r. ⌜ r ≡ hasPacket (now (file .entry)) packet ⌝ }
@@ -171,8 +199,8 @@ fn has_word(file: &[u8], word: usize) -> bool
     HEADER_BYTES + PACKET_BYTES * packets + Word::SIZE * word + Word::SIZE <= file.len()
 }
 
-// A packet of the file, or the end where there is none.
-fn packet_at(file: &[u8], packet: usize) -> Found
+// A packet of the file by its number, with its word count; the end where there is none.
+pub fn packet_at(file: &[u8], packet: usize) -> Found
     ensures { λ r. ⌜ NextPacketPost (now (file .entry)) packet r ⌝ }
 {
     if has_packet(file, packet) {
@@ -186,8 +214,8 @@ fn packet_at(file: &[u8], packet: usize) -> Found
     }
 }
 
-// A word of the file, or the end where there is none.
-fn word_at(file: &[u8], word: usize) -> Found
+// A word of the file by its number in the whole file; the end where there is none.
+pub fn word_at(file: &[u8], word: usize) -> Found
     ensures { λ r. ⌜ NextWordPost (now (file .entry)) word r ⌝ }
 {
     if has_word(file, word) {
