@@ -1,5 +1,3 @@
-pub mod Decimal
-pub mod Putting
 pub mod Lines
 pub mod Steps
 pub mod Keeping

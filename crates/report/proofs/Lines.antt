@@ -9,8 +9,9 @@ use borrow.Rule.Slice.PartMut.{putMid, midOf}
 use lib.ListN.{length, getD, drop}
 use lib.Seq.{getD-drop}
 use Rattle.records.specs.Records.{Record, flat}
-use Rattle.report.specs.Text.{line, lines, firstRecord, recordsAt, Puts}
-use Rattle.report.proofs.Putting.{behind}
+use Rattle.ascii.specs.Text.{Puts}
+use Rattle.report.specs.Text.{line, lines, firstRecord, recordsAt}
+use Rattle.ascii.proofs.Putting.{behind}
 
 pub lines-append : (xs ys : List Record) → lines (xs ++ ys) ≡ lines xs ++ lines ys
 unfolding lines

@@ -26,7 +26,8 @@ use Rattle.report.specs.declared.Stage.{Stage}
 use Rattle.report.specs.declared.Stage.the-variants as S
 use Rattle.report.specs.declared.Report.{Report}
 use Rattle.report.specs.declared.Filled.{Filled}
-use Rattle.report.specs.Text.{lines, recordsAt, Puts}
+use Rattle.ascii.specs.Text.{Puts}
+use Rattle.report.specs.Text.{lines, recordsAt}
 use Rattle.report.specs.File.{settings}
 use Rattle.report.specs.Report.{firstStage, startReport, reading, recordsTold, itemStep, stageStep, stepOf, Prints, GoodReading, GoodWord, GoodReport}
 use Rattle.report.proofs.Lines.{records-written}

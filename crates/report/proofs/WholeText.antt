@@ -9,7 +9,8 @@ use Rattle.cdp_running.specs.Tracker.{packetCall}
 use Rattle.cdp_running.specs.Word.{recordsOf, takenOf, wordCall}
 use Rattle.bench_file.specs.File.{field, wordsBefore, misfit, firstRefusal, checkOf}
 use Rattle.bench_file.specs.Items.{wordItems, packetItems, items}
-use Rattle.report.specs.Text.{ascii, decimalIn, decimal, line, lines, heading, recordsLine, refusedLine}
+use Rattle.ascii.specs.Text.{ascii, decimalIn, decimal}
+use Rattle.report.specs.Text.{line, lines, heading, recordsLine, refusedLine}
 use Rattle.report.specs.File.{recordsFrom, fileRecords, text}
 
 pub wholeCase : List ℕ

@@ -1,39 +1,11 @@
 -- 01, "Bench file": the lines of a report, byte by byte in ASCII: "its output begins with the fixed line `pos code first second`, one line per record,
 -- decimal with single spaces, and last `records N`"; "a refused one gives only `refused N`". Every line ends in LF.
 -- Assumes nothing.
-use Prim.Native.Nat.{ℕ, zero, suc, _+_, _*_, _/_, _%_}
-use Prim.Native.Char.{code}
-use Prim.Native.String.{String, [] as ended, _∷_ as _then_}
-use mathlib.Core.Path.{_≡_}
-use mathlib.Core.Bool.{cond}
+use Prim.Native.Nat.{ℕ, zero, suc, _+_, _*_}
 use mathlib.Core.List.{List, [], _∷_, _++_}
-use lib.Dec.{ltb}
-use lib.ListN.{length, getD, drop}
-use Rattle.records.specs.Records.{Record, recordWidth, mostRecords, over}
-
--- The bytes of a text.
-abbrev pub ascii : String → List ℕ
-ascii ended = []
-ascii (c then s) = code c ∷ ascii s
-
-abbrev pub space : ℕ
-space = 0x20
-
-abbrev pub newline : ℕ
-newline = 0x0A
-
--- "decimal": the last digit of a number, and before it the digits of its tenth, where the number has more than one; in at most so many places.
-unfoldable pub decimalIn : ℕ → ℕ → List ℕ
-decimalIn zero n = []
-decimalIn (suc places) n = cond (ltb n 10) [] (decimalIn places (n / 10)) ++ ((0x30 + n % 10) ∷ [])
-
--- No number n has more than n + 1 digits.
-unfoldable pub decimal : ℕ → List ℕ
-decimal n = decimalIn (suc n) n
-
--- A number and the byte after it.
-abbrev pub number : ℕ → ℕ → List ℕ
-number n byte = decimal n ++ (byte ∷ [])
+use lib.ListN.{getD, drop}
+use Rattle.records.specs.Records.{Record, recordWidth, mostRecords}
+use Rattle.ascii.specs.Text.{ascii, space, newline, number}
 
 -- "one line per record, decimal with single spaces"
 unfoldable pub line : Record → List ℕ
@@ -67,8 +39,3 @@ firstRecord d = record { position = getD d 0 0; code = getD d 1 0; first = getD 
 unfoldable pub recordsAt : ℕ → List ℕ → List Record
 recordsAt zero d = []
 recordsAt (suc n) d = firstRecord d ∷ recordsAt n (drop recordWidth d)
-
--- A text was put at the front of a buffer, and so many bytes it has.
-pub record Puts (text buffer : List ℕ) (n : ℕ) (after : List ℕ) : Type 0 where
-  pub count : n ≡ length text
-  pub buffer-is : after ≡ over text buffer

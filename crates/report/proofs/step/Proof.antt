@@ -3,6 +3,8 @@
 use borrow.Author.Needs.{needs}
 use denote.Ref.{now}
 use mathlib.Core.Path.{refl, ap}
+use native.Mathlib.Omega.{arith}
+use Rattle.ascii.proofs.Putting.{in-room}
 use Rattle.report.specs.Text.{heading, refusedLine}
 use Rattle.report.specs.Report.{reading}
 use Rattle.report.proofs.Steps.{staged, went-on}
@@ -14,7 +16,7 @@ item-step-requires c κs = (c .before .before .before .before .before .pre .0 .t
 
 returns : tie.Need-returns
 unfolding heading
-returns c = staged (now (c .before .before .before .before .before .before .before .before .before .before .args .file)) (c .before .before .before .before .before .before .before .before .before .before .args .r) (c .before .before .before .before .before .before .enum-told .given .1) (went-on (c .at-stage .ensures) (c .before .before .before .put .ensures))
+returns c = staged (now (c .before .before .before .before .before .before .before .before .before .before .args .file)) (c .before .before .before .before .before .before .before .before .before .before .args .r) (c .before .before .before .before .before .before .enum-told .given .1) (went-on (c .at-stage .ensures) (in-room 22 heading (omega (arith, c .before .before .before .before .before .before .before .before .before .before .pre .1)) (c .before .before .before .put .ensures .0)))
 
 returns-2 : tie.Need-returns-2
 returns-2 c = staged (now (c .before .before .before .before .before .before .before .before .args .file)) (c .before .before .before .before .before .before .before .before .args .r) (c .before .before .before .before .enum-told2 .given .1) (c .before .before .item-step .ensures)

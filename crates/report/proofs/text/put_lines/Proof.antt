@@ -6,7 +6,8 @@ use mathlib.Core.Path.{_≡_, refl, subst}
 use Prim.Native.Nat.{_-_, _*_, _≤_}
 use native.Mathlib.Omega.{arith}
 use lib.ListN.{length}
-use Rattle.report.specs.Text.{mostLine, recordsAt, lines, Puts}
+use Rattle.ascii.specs.Text.{Puts}
+use Rattle.report.specs.Text.{mostLine, recordsAt, lines}
 use Rattle.report.proofs.Lines.{line-behind, none-yet}
 use Rattle.report.proofs.text.put_lines.Statement.{statement}
 use Rattle.report.proofs.text.put_lines.Tie as tie

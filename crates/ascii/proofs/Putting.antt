@@ -1,17 +1,18 @@
 -- Texts at the front of a buffer: byte by byte, and one behind the other.
 -- Assumes nothing.
-use Prim.Native.Nat.{ℕ, suc, _+_, _-_, _<_}
-use mathlib.Core.Path.{_≡_, sym, ap, subst, _∙_}
-use mathlib.Core.List.{List, [], _∷_, _++_}
+use Prim.Native.Nat.{ℕ, suc, _+_, _-_, _≤_, _<_}
+use mathlib.Core.Path.{_≡_, refl, sym, ap, subst, _∙_}
+use mathlib.Core.List.{List, [], _∷_, _++_, append-nil, append-assoc}
 use native.Mathlib.Numerals.{add-one}
 use native.Mathlib.Omega.{arith}
+use borrow.Author.Tests.{le-ltb}
 use borrow.Rule.Slice.PartMut.{putMid, midOf}
 use lib.ListN.{length, getD, set, take, drop, length-append}
 use lib.Seq.{take-suc, drop-cons, append-snoc, set-at, take-length, length-take-le}
 use Rattle.records.proofs.Buffer.{lent-on}
 use Rattle.io.specs.Digits.{digits, Fewest}
-use Rattle.report.specs.Text.{number, Puts}
-use Rattle.report.proofs.Decimal.{spelled-decimal}
+use Rattle.ascii.specs.Text.{space, decimal, spaced, inRoom, Puts}
+use Rattle.ascii.proofs.Decimal.{spelled-decimal}
 
 -- One byte more of a text is copied.
 pub copied : (d s : List ℕ) (i : ℕ) (l : List ℕ) → l ≡ take i s ++ drop i d → i < length d → i < length s
@@ -42,11 +43,9 @@ set-behind {t} {d} {l} {r} byte p h =
           ∙ ap (λ (n : ℕ). t ++ (byte ∷ []) ++ drop n d) (sym long);
     }
 
--- Digits that were spelled and copied, and the byte behind them.
-pub number-put : (a : List ℕ) {d l : List ℕ} {k r : ℕ} (n byte : ℕ) → Fewest 10 1 n k → take k a ≡ digits 10 k n → Puts (take k a) d r l → r < length d
-    → Puts (number n byte) d (r + 1) (set l r byte)
-number-put a {d} {l} {k} {r} n byte w e p h =
-    set-behind byte (subst (λ (t : List ℕ). Puts t d r l) (e ∙ spelled-decimal k n w) p) h
+-- Digits that were spelled and copied.
+pub decimal-put : (a : List ℕ) {d l : List ℕ} {k r : ℕ} (n : ℕ) → Fewest 10 1 n k → take k a ≡ digits 10 k n → Puts (take k a) d r l → Puts (decimal n) d r l
+decimal-put a {d} {l} {k} {r} n w e p = subst (λ (t : List ℕ). Puts t d r l) (e ∙ spelled-decimal k n w) p
 
 -- A text behind another, in the tail that was lent on.
 pub behind : {t u d l y : List ℕ} {r s : ℕ} → Puts t d r l → Puts u (midOf r (length l - r) l) s y → Puts (t ++ u) d (r + s) (putMid r (length l - r) l y)
@@ -55,3 +54,31 @@ behind {t} {u} {d} {l} {y} {r} {s} p q =
       count = omega (arith, p .count, q .count, length-append t u);
       buffer-is = lent-on r t u d l y (p .count) (p .buffer-is) (q .buffer-is);
     }
+
+-- Nothing is put.
+pub none-put : (d : List ℕ) → Puts [] d 0 d
+none-put d = record { count = refl; buffer-is = refl }
+
+-- For who has the room that is asked for: the text was put.
+pub in-room : (asked : ℕ) (t : List ℕ) {d l : List ℕ} {r : ℕ} → asked ≤ length d → Puts (inRoom asked (length d) t) d r l → Puts t d r l
+in-room asked t {d} h p = rw (le-ltb (length d) asked h) at p
+
+-- One number more of a line.
+spaced-snoc : (ns : List ℕ) (n : ℕ) → spaced (ns ++ (n ∷ [])) ≡ spaced ns ++ (space ∷ decimal n)
+unfolding spaced
+spaced-snoc [] n = append-nil (space ∷ decimal n)
+spaced-snoc (m ∷ ns) n =
+    ap (λ (l : List ℕ). (space ∷ decimal m) ++ l) (spaced-snoc ns n) ∙ sym (append-assoc (space ∷ decimal m) (spaced ns) (space ∷ decimal n))
+
+-- The next number behind those before it.
+pub spaced-behind : (ns : List ℕ) (i : ℕ) {d l y : List ℕ} {r s : ℕ} → i < length ns → Puts (spaced (take i ns)) d r l
+    → Puts (space ∷ decimal (getD ns i 0)) (midOf r (length l - r) l) s y
+    → Puts (spaced (take (i + 1) ns)) d (r + s) (putMid r (length l - r) l y)
+spaced-behind ns i {d} {l} {y} {r} {s} h p q =
+    subst (λ (t : List ℕ). Puts t d (r + s) (putMid r (length l - r) l y))
+    (sym (spaced-snoc (take i ns) (getD ns i 0)) ∙ ap spaced (sym (take-suc ns i 0 h)) ∙ ap (λ (n : ℕ). spaced (take n ns)) (sym (add-one i)))
+    (behind p q)
+
+pub none-spaced : (ns d : List ℕ) → Puts (spaced (take 0 ns)) d 0 d
+unfolding spaced
+none-spaced ns d = none-put d

@@ -8,7 +8,7 @@ use native.Mathlib.Omega.{arith}
 use borrow.Author.Tests.{lt-ltb, le-ltb, leb-true, leb-false}
 use lib.Dec.{leb}
 use Rattle.io.specs.Digits.{digits, Fewest}
-use Rattle.report.specs.Text.{decimalIn, decimal}
+use Rattle.ascii.specs.Text.{decimalIn, decimal}
 
 spelled : (k f n : ℕ) → n < f → Fewest 10 1 n k → digits 10 k n ≡ decimalIn f n
 unfolding decimalIn

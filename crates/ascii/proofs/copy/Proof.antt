@@ -1,4 +1,4 @@
--- `put` meets its contract. The loop's invariant: the bytes passed stand at the front.
+-- `copy` meets its contract. The loop's invariant: the bytes passed stand at the front.
 -- Assumes nothing.
 use borrow.Author.Needs.{needs}
 use denote.Ref.{now}
@@ -7,9 +7,9 @@ use mathlib.Core.List.{_++_}
 use Prim.Native.Nat.{_-_, _≤_}
 use native.Mathlib.Omega.{arith}
 use lib.ListN.{length, take, drop, length-set}
-use Rattle.report.proofs.Putting.{copied, all-copied}
-use Rattle.report.proofs.text.put.Statement.{statement}
-use Rattle.report.proofs.text.put.Tie as tie
+use Rattle.ascii.proofs.Putting.{copied, all-copied}
+use Rattle.ascii.proofs.copy.Statement.{statement}
+use Rattle.ascii.proofs.copy.Tie as tie
 
 abbrev Inv-loop : tie.InvT-loop
 Inv-loop out₀ text i₀ out i = (i ≤ length text) × ((length out ≡ length out₀) × (out ≡ take i text ++ drop i out₀))
@@ -26,5 +26,5 @@ loop-again c = (omega arith, (simp length-set (c .before .before .loop .inv .1 .
 returns : tie.Need-returns Inv-loop μ-loop
 returns c = all-copied (now (c .before .before .args .out)) (now (c .before .before .args .text)) (c .before .loop .i) (c .before .loop .out) (c .before .loop .inv .1 .1) (omega arith)
 
-pub put-spec : {M : Type 1} → statement M
-put-spec = tie.close (tie.spec Inv-loop μ-loop loop-holds (λ c. search needs) (λ c. search needs) (λ c. search needs) (λ c. search needs) loop-again (λ c. search needs) returns)
+pub copy-spec : {M : Type 1} → statement M
+copy-spec = tie.close (tie.spec Inv-loop μ-loop loop-holds (λ c. search needs) (λ c. search needs) (λ c. search needs) (λ c. search needs) loop-again (λ c. search needs) returns)
