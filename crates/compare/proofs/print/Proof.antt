@@ -1,0 +1,31 @@
+-- `print` is safe and ends: each step leaves fewer steps.
+-- Assumes nothing.
+use borrow.Author.Needs.{needs}
+use borrow.Author.Tests.{not-true}
+use mathlib.Core.Path.{_≡_, sym, _∙_}
+use lib.ListN.{length}
+use native.Mathlib.Omega.{arith}
+use Rattle.io.proofs.Counting.{front}
+use Rattle.comparison.specs.Text.{mostPrinted}
+use Rattle.comparison.specs.Listing.{Good, mostLeft}
+use Rattle.comparison.proofs.Printing.{step-fits, step-onward}
+use Rattle.compare.proofs.print.Statement.{statement}
+use Rattle.compare.proofs.print.Tie as tie
+
+abbrev Inv-loop : tie.InvT-loop
+Inv-loop a b out₀ listing₀ out listing = Good a b listing × (length out ≡ mostPrinted)
+
+abbrev μ-loop : tie.MeasureT-loop
+μ-loop a b out₀ listing₀ out listing = mostLeft a b listing
+
+array-share-prefix-out : tie.Need-array-share-prefix-out Inv-loop μ-loop
+array-share-prefix-out c = omega (arith, step-fits (c .before .step .ensures) (c .before .step .kept .1 .1 .1 .0), c .before .step .kept .1 .1 .1 .0, c .before .before .before .before .before .loop .inv .1)
+
+slice-aggregate-write-all : tie.Need-slice-aggregate-write-all Inv-loop μ-loop
+slice-aggregate-write-all c = front (c .before .before .step .result .n) (c .before .before .step .last .1 .1 .1 .0) (step-fits (c .before .before .step .ensures) (c .before .before .step .kept .1 .1 .1 .0))
+
+loop-less : tie.Need-loop-less Inv-loop μ-loop
+loop-less c = step-onward (c .before .before .before .before .before .step .ensures) (c .before .before .before .before .before .before .before .before .before .loop .inv .0) (sym (c .before .before .before .before .before .before .before .before .finished .ensures) ∙ not-true _ (c .before .before .before .before .before .before .before .if1 .taken)) (omega (arith, c .before .before .before .before .before .before .before .before .before .loop .inv .1))
+
+pub print-spec : {M : Type 1} → statement M
+print-spec = tie.close (tie.spec Inv-loop μ-loop (λ c. search needs) (λ c. search needs) (λ c. search needs) (λ c. search needs) (λ c. search needs) array-share-prefix-out slice-aggregate-write-all (λ c. search needs) (λ c. search needs) loop-less (λ c. search needs) (λ c. search needs))

@@ -1,0 +1,8 @@
+pub mod Rows
+pub mod Keeping
+pub mod Looking
+pub mod Printing
+pub mod Unique
+pub mod Same
+pub mod Example
+pub mod Never

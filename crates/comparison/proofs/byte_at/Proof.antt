@@ -1,0 +1,45 @@
+-- `byte_at` meets its contract: the reader finds the word, and a number of one byte is the byte.
+-- Assumes nothing.
+use Prim.Native.Nat.{ℕ, _+_, _≤_}
+use mathlib.Core.Path.{_≡_, sym, ap, _∙_}
+use native.Mathlib.Omega.{arith}
+use lib.ListN.{length, getD}
+use denote.Ref.{now}
+use Rattle.bench_file.specs.File.{wordPlace}
+use Rattle.bench_file.proofs.Fields.{byte}
+use Rattle.bench_file.proofs.Finding.{word-found, word-inside}
+use borrow.Author.Needs.{needs}
+use Rattle.comparison.proofs.byte_at.Statement.{statement}
+use Rattle.comparison.proofs.byte_at.Tie as tie
+
+place-is : (c : tie.After-known-told) → c .before .at .given .0 .0 ≡ wordPlace (now (c .before .before .before .before .before .args .file)) (c .before .before .before .before .before .args .word)
+place-is c = let e = sym (c .before .at .given .1) ∙ c .before .before .before .word-at .ensures .answer ∙ word-found (now (c .before .before .before .before .before .args .file)) (c .before .before .before .before .before .args .word) (c .before .before .before .before .before .pre .0) in cc
+
+inside : (c : tie.After-known-told) → c .before .at .given .0 .0 + c .before .before .before .before .before .args .byte + 1 ≤ length (now (c .before .before .before .before .before .args .file))
+inside c = omega (arith, place-is c, word-inside (now (c .before .before .before .before .before .args .file)) (c .before .before .before .before .before .args .word) (c .before .before .before .before .before .pre .0), c .before .before .before .before .before .pre .1)
+
+add-result : tie.Need-add-result
+add-result c = omega (arith, inside c)
+
+shared-slice-read-result : tie.Need-shared-slice-read-result
+shared-slice-read-result c = omega (arith, inside (c .before))
+
+returns : tie.Need-returns
+returns c =
+    ap (λ (n : ℕ). getD (now (c .before .before .before .before .before .before .args .file)) (n + c .before .before .before .before .before .before .args .byte) 0) (place-is (c .before))
+    ∙ sym (byte (now (c .before .before .before .before .before .before .args .file)) (wordPlace (now (c .before .before .before .before .before .before .args .file)) (c .before .before .before .before .before .before .args .word) + c .before .before .before .before .before .before .args .byte))
+
+returns-2 : tie.Need-returns-2
+returns-2 c =
+    let e = sym (c .enum-told .given .1) ∙ c .before .before .word-at .ensures .answer ∙ word-found (now (c .before .before .before .before .args .file)) (c .before .before .before .before .args .word) (c .before .before .before .before .pre .0) in
+    let z : _≡_ {A = ℕ} 0 1 = cc in
+    absurd (omega arith)
+
+returns-3 : tie.Need-returns-3
+returns-3 c =
+    let e = sym (c .enum-told2 .given .1) ∙ c .before .before .word-at .ensures .answer ∙ word-found (now (c .before .before .before .before .args .file)) (c .before .before .before .before .args .word) (c .before .before .before .before .pre .0) in
+    let z : _≡_ {A = ℕ} 0 1 = cc in
+    absurd (omega arith)
+
+pub byte-at-spec : {M : Type 1} → statement M
+byte-at-spec = tie.close (tie.spec (λ c. search needs) (λ c. search needs) add-result shared-slice-read-result (λ c. search needs) (λ c. search needs) returns returns-2 returns-3)

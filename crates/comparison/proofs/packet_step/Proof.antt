@@ -1,0 +1,19 @@
+-- `packet_step` meets its contract.
+-- Assumes nothing.
+use denote.Ref.{now}
+use native.Mathlib.Omega.{arith}
+use Rattle.comparison.proofs.Looking.{header, packet-more, packet-last}
+use Rattle.comparison.proofs.packet_step.Statement.{statement}
+use Rattle.comparison.proofs.packet_step.Tie as tie
+
+common-packets-requires : tie.Need-common-packets-requires
+common-packets-requires c κs = (omega (arith, header (c .before .before .pre .both) .0), omega (arith, header (c .before .before .pre .both) .1))
+
+returns : tie.Need-returns
+returns c = packet-more (now (c .before .before .before .before .before .args .a)) (now (c .before .before .before .before .before .args .b)) (c .before .before .before .before .before .args .l) (now (c .before .before .before .before .before .args .a)) (c .before .before .common-packets .ensures) (c .if1 .taken)
+
+returns-2 : tie.Need-returns-2
+returns-2 c = packet-last (now (c .before .before .before .before .before .args .a)) (now (c .before .before .before .before .before .args .b)) (c .before .before .before .before .before .args .l) (now (c .before .before .before .before .before .args .a)) (c .before .before .common-packets .ensures) (c .if1 .left)
+
+pub packet-step-spec : {M : Type 1} → statement M
+packet-step-spec = tie.close (tie.spec common-packets-requires returns returns-2)
