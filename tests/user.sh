@@ -1,8 +1,8 @@
 #!/bin/sh
-# user.sh: what a person at the bench would try with ./check and ./run, and the answer that each must get: exit status, standard output, and
-# a word on standard error wherever nothing was checked.
+# user.sh: what a person at the bench would try with ./check, ./compare and ./run, and the answer that each must get: exit status, standard
+# output, and a word on standard error wherever nothing was checked or compared.
 #
-#     tests/user.sh            the programs are proved and built by ./check and ./run where they are not
+#     tests/user.sh            the programs are proved and built by ./check, ./compare and ./run where they are not
 #
 # What would spoil the checkout is tried on a copy of it. A line for each trial that fails, and for each that was left out; the last line
 # says how many there were. Exit status 1 if one failed.
@@ -47,6 +47,34 @@ try() { # WHAT STATUS OUTPUT-FILE ERROR-PATTERN ARGUMENT..: of ./check
 refused_6() { # WHAT CAUSE FILE
     try "$1" 2 "$work/refused6" "refused 6: $2\$" "$3"
 }
+compared() { # WHAT FIRST SECOND LINE..: the lines that ./compare must print before the last, which counts them
+    what=$1 one=$2 other=$3
+    shift 3
+    { for line; do echo "$line"; done; echo "differences $#"; } >"$work/lines"
+    try_command "compare: $what" $(($# > 0)) "$work/lines" '' ./compare "$one" "$other"
+}
+not_compared() { # WHAT NUMBER WHICH CAUSE FIRST SECOND: refused, and nothing is said of the other file
+    echo "refused $2 $3" >"$work/lines"
+    if [ "$3" -eq 0 ]; then name=$5; else name=$6; fi
+    try_command "compare: $1" 2 "$work/lines" "^compare: $name: refused $2 $3: $4\$" ./compare "$5" "$6"
+    [ "$(wc -l <"$work/said")" -eq 1 ] || { wrong 'said more than that'; cat "$work/said"; }
+}
+unread() { # WHAT ERROR-PATTERN ARGUMENT..: what ./compare does not come to compare
+    what=$1 says=$2
+    shift 2
+    try_command "compare: $what" 2 "$work/nothing" "$says" ./compare "$@"
+}
+background() { # NAME COMMAND..: leaves what it printed and said, and its exit status last
+    name=$1 status=0
+    shift
+    "$@" >"$work/$name.printed" 2>"$work/$name.said" </dev/null || status=$?
+    echo "$status" >"$work/$name.status"
+}
+background_ended() { # NAME: for judge
+    status=$(cat "$work/$1.status")
+    mv "$work/$1.printed" "$work/out"
+    mv "$work/$1.said" "$work/err"
+}
 bytes() { head -c "$1" /dev/zero; }
 with() { # FILE OFFSET BYTES-FOR-PRINTF HOW-MANY: the file with other bytes there
     head -c "$2" "$1"
@@ -64,6 +92,7 @@ printf 'pos code first second\nrecords 0\n' >"$work/none"
 for f in whole_case two_pages; do sh tools/hex.sh <"examples/$f.hex" >"$work/$f"; done
 whole=$work/whole_case
 ./check "$whole" >/dev/null 2>"$work/err" || [ $? -eq 1 ] || { cat "$work/err"; echo "user: benchcheck is not there"; exit 1; }
+./compare "$whole" "$whole" >/dev/null 2>"$work/err" || { cat "$work/err"; echo "user: compare is not there"; exit 1; }
 
 try 'the whole case of document 01' 1 examples/whole_case.out '' "$whole"
 try 'a file of three packets' 1 examples/two_pages.out '' "$work/two_pages"
@@ -189,30 +218,169 @@ what='closed standard output' status=0
 : >"$work/out"
 judge 2 "$work/nothing" 'could not be printed'
 
+# ./compare. The whole case has one packet, its fields from byte 16 and its word count at 38, and five words from byte 40.
+data=crates/compare/data
+try_command 'compare: the files of its folder' 1 crates/compare/stdout '' ./compare $data/first.bench $data/second.bench
+awk '$1 != "differences" { n = $NF; $NF = $(NF - 1); $(NF - 1) = n } 1' crates/compare/stdout >"$work/swapped"
+try_command 'compare: the second before the first' 1 "$work/swapped" '' ./compare $data/second.bench $data/first.bench
+cp "$whole" "$work/whole_again"
+compared 'a file and itself' "$whole" "$whole"
+compared 'a file and a copy of it' "$whole" "$work/whole_again"
+compared 'two files without packets' "$work/no_packets" "$work/no_packets"
+compared 'a byte of a word' "$whole" "$work/lane_2" 'byte 0 2 9 33 34'
+compared 'the same, the other before' "$work/lane_2" "$whole" 'byte 0 2 9 34 33'
+with "$whole" 32 '\306\000' 2 >"$work/bc_198"
+compared 'a field of a packet' "$whole" "$work/bc_198" 'field 0 3 3564 198'
+with "$whole" 16 '\000\000\000\000\000\000\000\100' 8 >"$work/far" # 2 to the 62nd
+compared 'the largest position' "$work/far" "$whole" 'field 0 0 4611686018427387904 0'
+(with "$whole" 0 '\002\000\000\000\005\000\000\000\020\000\000\000\100' 13 | head -c 40; bytes 24; tail -c 50 "$whole") >"$work/two_packets"
+compared 'a packet more, without words' "$whole" "$work/two_packets" 'packets 1 2'
+compared 'a packet less' "$work/two_packets" "$whole" 'packets 2 1'
+with "$whole" 4 '\006' 1 >"$work/six"
+(with "$work/six" 38 '\006' 1; bytes 10) >"$work/six_words"
+compared 'a word more' "$whole" "$work/six_words" 'words 5 6' 'count 0 5 6'
+compared 'no packet and one' "$work/no_packets" "$whole" 'packets 0 1' 'words 0 5'
+# two packets and three words, whose last bytes are 1, 2 and 3; the second word is the second packet's first, or the first packet's second
+for n in 1 2; do
+    {
+        echo '02000000 03000000 10000000 40000000'
+        for count in "$n" $((3 - n)); do echo "0000000000000000 00000000 00000000 0000 0000 00 00 0${count}00"; done
+        for byte in 1 2 3; do echo "0000000000000000000$byte"; done
+    } | sh tools/hex.sh >"$work/split_$n"
+done
+compared 'a word in another packet' "$work/split_1" "$work/split_2" 'count 0 1 2' 'count 1 2 1' 'byte 1 0 9 2 3'
+
+# the largest: 16 + 24 + 2,796 * 10 = 28,000 bytes, every byte of a word another; and 16 + 1,166 * 24 = 28,000, without words
+printf '01000000 EC0A0000 10000000 28000000 0000000000000000 07000000 10000000 EC0D 0000 00 02 EC0A' | sh tools/hex.sh >"$work/head"
+(cat "$work/head"; bytes 27960) >"$work/zeros_28000"
+(cat "$work/head"; bytes 27960 | tr '\000' '\377') >"$work/ones_28000"
+awk 'BEGIN {
+    for (w = 0; w < 2796; w++) for (k = 0; k < 10; k++) print "byte 0", w, k, 0, 255
+    print "differences 27960"
+}' >"$work/all_bytes"
+try_command 'compare: 28,000 bytes, every byte of a word another' 1 "$work/all_bytes" '' ./compare "$work/zeros_28000" "$work/ones_28000"
+compared '28,000 bytes and a copy' "$work/zeros_28000" "$work/zeros_28000"
+(printf '8E040000 00000000 10000000 606D0000' | sh tools/hex.sh; bytes 27984) >"$work/packets_28000"
+with "$work/packets_28000" 27996 '\001\002' 2 >"$work/last_packet"
+compared '28,000 bytes of packets, the last another' "$work/packets_28000" "$work/last_packet" 'field 1165 5 0 1' 'field 1165 6 0 2'
+(cat "$work/zeros_28000"; bytes 1) >"$work/bytes_28001"
+for f in zeros ones packets; do
+    [ "$(wc -c <"$work/${f}_28000")" -eq 28000 ] || { what="$f"; wrong 'is not 28,000 bytes'; }
+done
+
+# refused, each way; 3 can't be, where 28,000 bytes have no room for a packet of 4,097 words
+not_compared 'the first of 28,001 bytes' 6 0 '28,001 bytes; at most 28,000' "$work/bytes_28001" "$work/zeros_28000"
+not_compared 'the second of 28,001 bytes' 6 1 '28,001 bytes; at most 28,000' "$work/zeros_28000" "$work/bytes_28001"
+not_compared 'a packet of 4,097 words' 6 0 '41,010 bytes; at most 28,000' "$work/full" "$whole"
+not_compared 'a file of a million bytes' 6 1 '1,234,567 bytes; at most 28,000' "$whole" "$work/longer"
+not_compared 'a device without end' 6 1 '10,000,000 bytes or more; at most 28,000' "$whole" /dev/zero
+not_compared 'an empty file' 6 0 '0 bytes; at least 16' "$work/nothing" "$whole"
+not_compared 'an empty file second' 6 1 '0 bytes; at least 16' "$whole" "$work/nothing"
+not_compared 'two empty files' 6 0 '0 bytes; at least 16' "$work/nothing" "$work/nothing"
+not_compared 'a text' 6 1 'not a bench file: its packet offset is 1818846752, not 16' "$whole" "$work/text"
+not_compared 'a word offset of 41' 6 0 'the header says 1 packet and a word offset of 41, not 40' "$work/offset_41" "$whole"
+not_compared 'a file that lost its last byte' 6 1 'the header says 5 words, 89 bytes are there, not 90' "$whole" "$work/short"
+sum="its packets' word counts don't sum up to the header's"
+not_compared 'a packet that counts a word less' 7 0 "$sum" "$work/four_words" "$whole"
+not_compared 'a packet that counts a word less second' 7 1 "$sum" "$whole" "$work/four_words"
+with "$whole" 38 '\001\020' 2 >"$work/says_4097"
+not_compared 'a packet that counts 4,097 words and has five' 7 0 "$sum" "$work/says_4097" "$whole"
+not_compared 'a packet of format 1' 5 0 'a field of a packet is out of its range' "$work/format_1" "$whole"
+not_compared 'a packet of format 1 second' 5 1 'a field of a packet is out of its range' "$whole" "$work/format_1"
+not_compared 'both refused, 7 and 6' 7 0 "$sum" "$work/four_words" "$work/short"
+not_compared 'both refused, 6 and 5' 6 0 'the header says 5 words, 89 bytes are there, not 90' "$work/short" "$work/format_1"
+
+unread 'a folder' "^compare: $work is a folder" "$work" "$whole"
+unread 'a folder second' "^compare: $work is a folder" "$whole" "$work"
+unread 'a file that is not there' "^compare: $work/nowhere: no such file" "$work/nowhere" "$whole"
+unread 'a file that is not there second' "^compare: $work/nowhere: no such file" "$whole" "$work/nowhere"
+unread 'no file named' '^usage: ./compare FIRST SECOND '
+unread 'one file' '^usage' "$whole"
+unread 'three files' '^usage' "$whole" "$whole" "$whole"
+unread 'standard input twice' '^usage' - -
+compared 'a file whose name has a blank and a quote' "$work/it's here" "$work/lane_2" 'byte 0 2 9 33 34'
+
+printf 'byte 0 2 9 33 34\ndifferences 1\n' >"$work/one_byte"
+printf 'byte 0 2 9 34 33\ndifferences 1\n' >"$work/one_byte_back"
+what='compare: standard input first' status=0
+./compare - "$work/lane_2" <"$whole" >"$work/out" 2>"$work/err" || status=$?
+judge 1 "$work/one_byte" ''
+what='compare: a pipe second, in pieces' status=0
+(head -c 7 "$whole"; sleep 1; tail -c +8 "$whole") | ./compare "$work/lane_2" - >"$work/out" 2>"$work/err" || status=$?
+judge 1 "$work/one_byte_back" ''
+what='compare: 28,001 bytes through a pipe' status=0
+echo 'refused 6 1' >"$work/lines"
+# shellcheck disable=SC2002 # a pipe is what is tried
+cat "$work/bytes_28001" | ./compare "$whole" - >"$work/out" 2>"$work/err" || status=$?
+judge 2 "$work/lines" '^compare: standard input: refused 6 1: 28,001 bytes; at most 28,000$'
+what='compare: closed standard input' status=0
+./compare "$whole" - <&- >"$work/out" 2>"$work/err" || status=$?
+judge 2 "$work/nothing" '^compare: standard input is closed'
+what='compare: closed standard input that is not asked for' status=0
+./compare "$whole" "$work/lane_2" <&- >"$work/out" 2>"$work/err" || status=$?
+judge 1 "$work/one_byte" ''
+what='compare: a folder on standard input' status=0
+./compare - "$whole" <. >"$work/out" 2>"$work/err" || status=$?
+judge 2 "$work/nothing" '^compare: standard input could not be read'
+if [ -w /dev/full ]; then
+    what='compare: a full disk' status=0
+    ./compare "$whole" "$whole" >/dev/full 2>"$work/err" || status=$?
+    : >"$work/out"
+    judge 2 "$work/nothing" '^compare: the result could not be printed'
+else
+    left_out 'compare: a full disk (no /dev/full)'
+fi
+what='compare: closed standard output' status=0
+./compare "$whole" "$whole" 2>"$work/err" >&- || status=$?
+: >"$work/out"
+judge 2 "$work/nothing" '^compare: the result could not be printed'
+# Another file is put in its place, by mv, as soon as it began: either is compared, and nothing between. One that is written anew where it
+# stands may be read half written; once it is read it is not looked at again, which is tried below.
+cp "$whole" "$work/changing"
+cp "$work/lane_2" "$work/changed"
+background changing ./compare "$whole" "$work/changing" &
+mv "$work/changed" "$work/changing"
+wait
+what='compare: a file in whose place another is put'
+echo 'differences 0' >"$work/equal"
+background_ended changing
+if [ "$status" -eq 0 ]; then judge 0 "$work/equal" ''; else judge 1 "$work/one_byte" ''; fi
+
 # from elsewhere, by its path and by links
 mkdir "$work/elsewhere"
 ln -s "$here/check" "$work/elsewhere/look"
 ln -s look "$work/elsewhere/look again"
 ln -s "$here/run" "$work/elsewhere/start"
+ln -s "$here/compare" "$work/elsewhere/set side by side"
 cp "$whole" "$work/elsewhere/file"
+cp "$work/lane_2" "$work/elsewhere/-e"
+cp "$work/lane_2" "$work/elsewhere/a name with blanks"
+mkdir "$work/elsewhere/tmp"
 cd "$work/elsewhere"
 try_command 'from another folder' 1 "$here/examples/whole_case.out" '' "$here/check" file
 try_command 'through a link' 1 "$here/examples/whole_case.out" '' ./look file
 try_command 'through a link to a link' 1 "$here/examples/whole_case.out" '' './look again' file
+try_command 'compare: from another folder' 1 "$work/one_byte" '' "$here/compare" file 'a name with blanks'
+try_command 'compare: through a link, a name that begins with -' 1 "$work/one_byte_back" '' './set side by side' -e file
+try_command 'compare: a temporary folder named from there' 1 "$work/one_byte" '' env TMPDIR=tmp "$here/compare" file -e
+rmdir tmp || wrong 'left something in it'
+try_command 'compare: no temporary folder' 2 "$work/nothing" '^compare: no temporary folder' env TMPDIR=nowhere "$here/compare" file -e
 try_command 'run vectors' 0 "$here/crates/vectors/stdout" '' "$here/run" vectors
 try_command 'run edges, through a link' 0 "$here/crates/edges/stdout" '' ./start edges
 cd "$here"
 what='run fields' status=0
 ./run fields <crates/fields/stdin >"$work/out" 2>"$work/err" || status=$?
 judge 0 crates/fields/stdout ''
-try_command 'run a program that is none' 2 "$work/nothing" "no program 'nowhere' here; the programs are benchcheck edges fields vectors" ./run nowhere
+try_command 'run compare' 0 crates/compare/stdout '' ./run compare
+try_command 'run a program that is none' 2 "$work/nothing" \
+    "no program 'nowhere' here; the programs are benchcheck compare edges fields vectors" ./run nowhere
 try_command 'run a library' 2 "$work/nothing" "no program 'words' here" ./run words
 try_command 'run an empty name' 2 "$work/nothing" "no program '' here" ./run ''
 try_command 'run a path' 2 "$work/nothing" "no program '../crates/fields' here" ./run ../crates/fields
 try_command 'run without a name' 2 "$work/nothing" 'usage' ./run
 
 # what they say of themselves; elsewhere, where only what they print of themselves can help
-for command in check run test tools/native-lib.sh; do
+for command in check compare run test tools/native-lib.sh; do
     kit_help "$command" >"$work/help"
     what="$command: its head"
     grep -q "^\(${command##*/}\|The tests\)" "$work/help" || wrong 'has no line that says what it is'
@@ -223,7 +391,7 @@ done
     grep -m 1 '^## ' CHANGELOG.md | sed 's/^## /khandzorul /; s/,.*//'
     echo "Rattle kit: $(rt version)"
 } >"$work/version"
-for command in check run test; do
+for command in check compare run test; do
     what="$command --version" status=0
     "./$command" --version >"$work/seen" 2>"$work/err" || status=$?
     sed 's/; the README names .*//' "$work/seen" >"$work/out"
@@ -271,40 +439,89 @@ else
     left_out 'the library for another target (no python3)'
 fi
 
-# A copy of the checkout, with all that benchcheck was proved from.
+# A copy of the checkout, with all that benchcheck and compare were proved from.
 copy=$work/copy
 mkdir -p "$copy/target/rlib"
-cp -Rp check run README.md CHANGELOG.md crates.txt crates tools "$copy"
+cp -Rp check compare run README.md CHANGELOG.md crates.txt crates tools "$copy"
 take() {
     cp -Rp target/bin target/obj target/log target/stamp "$copy/target"
-    kit_below benchcheck
-    for d in $found; do [ ! -d "crates/$d" ] || cp -Rp "target/rlib/$d.rlib" "$copy/target/rlib"; done
+    for program in benchcheck compare; do
+        kit_below $program
+        for d in $found; do [ ! -d "crates/$d" ] || cp -Rp "target/rlib/$d.rlib" "$copy/target/rlib"; done
+    done
 }
 kit_alone take
 
 # four files at once, while the program is lost: one run builds it, the others wait
 rm "$copy/target/bin/benchcheck"
-for f in whole_case two_pages clean short; do
-    (
-        status=0
-        "$copy/check" "$work/$f" >"$work/$f.printed" 2>"$work/$f.said" </dev/null || status=$?
-        echo "$status" >"$work/$f.status"
-    ) &
-done
+for f in whole_case two_pages clean short; do background "$f" "$copy/check" "$work/$f" & done
 wait
 cp "$work/none" "$work/clean.out"
 cp "$work/refused6" "$work/short.out"
 cp examples/*.out "$work"
 at_once() { # FILE STATUS ERROR-PATTERN
-    what="four at once, the program lost: $1" status=$(cat "$work/$1.status")
-    mv "$work/$1.printed" "$work/out"
-    mv "$work/$1.said" "$work/err"
+    what="four at once, the program lost: $1"
+    background_ended "$1"
     judge "$2" "$work/$1.out" "$3"
 }
 at_once whole_case 1 ''
 at_once two_pages 1 ''
 at_once clean 0 ''
 at_once short 2 'refused 6'
+
+# the same of ./compare, each with another answer
+rm "$copy/target/bin/compare"
+background whole_again "$copy/compare" "$whole" "$work/whole_again" &
+background lane_2 "$copy/compare" "$whole" "$work/lane_2" &
+background two_packets "$copy/compare" "$whole" "$work/two_packets" &
+background short "$copy/compare" "$whole" "$work/short" &
+wait
+cp "$work/equal" "$work/whole_again.out"
+cp "$work/one_byte" "$work/lane_2.out"
+printf 'packets 1 2\ndifferences 1\n' >"$work/two_packets.out"
+echo 'refused 6 1' >"$work/short.out"
+at_once whole_again 0 ''
+at_once lane_2 1 ''
+at_once two_packets 1 ''
+at_once short 2 'refused 6 1'
+: >"$copy/target/bin/compare"
+try_command 'compare: an empty program' 1 "$work/one_byte" '' "$copy/compare" "$whole" "$work/lane_2"
+
+# files that are written anew where they stand, while ./compare waits for another run: it has read both by then
+if command -v flock >/dev/null 2>&1; then
+    cp "$whole" "$work/written"
+    cp "$work/lane_2" "$work/written_too"
+    exec 8<"$copy"
+    flock 8
+    background written "$copy/compare" "$work/written" "$work/written_too" &
+    n=0
+    until grep -q 'waiting for it' "$work/written.said" 2>/dev/null || [ $n -eq 60 ]; do sleep 1; n=$((n + 1)); done
+    cat "$work/two_packets" >"$work/written"
+    : >"$work/written_too"
+    flock -u 8
+    exec 8<&-
+    wait
+    what='compare: files that are written meanwhile'
+    background_ended written
+    judge 1 "$work/one_byte" 'note: another run proves or builds in this folder; waiting'
+else
+    left_out 'compare: files that are written meanwhile (no flock)'
+fi
+
+# What says nothing of the files is no answer: a program that prints nothing, since a cp takes its second file away; another in its place; half
+# of it.
+mkdir "$work/taking"
+# shellcheck disable=SC2016 # the other shell's
+printf '%s\n' '#!/bin/sh' 'PATH=${PATH#*:}' 'cp "$@" && rm -f "${2%/*}/second.bench"' >"$work/taking/cp"
+chmod +x "$work/taking/cp"
+try_command 'compare: a copy that is lost' 2 "$work/nothing" '^compare: the program could not read a file' \
+    env PATH="$work/taking:$PATH" "$copy/compare" "$whole" "$whole"
+cp "$copy/target/bin/compare" "$work/program"
+cp "$copy/target/bin/benchcheck" "$copy/target/bin/compare" # of no bytes: 'refused 6'
+try_command 'compare: an answer that is none' 2 "$work/nothing" '^compare: refused 6: an answer that is none' "$copy/compare" "$whole" "$whole"
+head -c 5000 "$work/program" >"$copy/target/bin/compare"
+try_command 'compare: half a program' 2 "$work/nothing" '^compare: the program ended before' "$copy/compare" "$whole" "$whole"
+cp "$work/program" "$copy/target/bin/compare"
 
 # an empty program is built again; who watches sees it
 : >"$copy/target/bin/benchcheck"
@@ -358,11 +575,19 @@ else
     user=$(${as:-env} id -un 2>/dev/null || ${as:-env} id -u)
     cannot="user $user can't write $copy/target"
     read_only "a folder that can't be written, proved" 1 examples/whole_case.out "note: $cannot: benchcheck is run as it was" "$copy/check" -
+    read_only "compare there, proved" 1 "$work/one_byte" "note: $cannot: compare is run as it was" "$copy/compare" - "$work/lane_2"
+    cp "$whole" "$work/locked"
+    chmod 000 "$work/locked"
+    locked="^compare: $work/locked can't be read"
+    read_only "compare: a file that can't be read" 2 "$work/nothing" "$locked" "$copy/compare" "$work/locked" -
+    read_only "compare: a second file that can't be read" 2 "$work/nothing" "$locked" "$copy/compare" - "$work/locked"
     read_only "run there what is not proved" 2 "$work/nothing" "$cannot, and edges is not proved" "$copy/run" edges
     touch "$copy/crates/report/src/lib.rt"
     read_only 'the same, changed since' 2 "$work/nothing" 'not proved there since crates/report/src.* was changed' "$copy/check" -
     rm "$copy/target/bin/benchcheck"
     read_only 'the same, the program lost' 2 "$work/nothing" "$cannot, and benchcheck is not" "$copy/check" -
+    rm "$copy/target/bin/compare"
+    read_only 'compare there, the program lost' 2 "$work/nothing" "$cannot, and compare is not" "$copy/compare" - "$whole"
     rm -rf "$copy/target"
     read_only 'the same, never proved' 2 "$work/nothing" "$cannot, and benchcheck is not" "$copy/check" -
     read_only 'run there, never proved' 2 "$work/nothing" "$cannot, and fields is not" "$copy/run" fields

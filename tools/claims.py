@@ -1,6 +1,6 @@
 #!/usr/bin/env python3
 """claims.py: two claims of the docs, looked for in the tree. Each public function of a library has an `ensures` that determines its result and the final
-content of what it is lent to change: an equation, or a record of specs/ with a uniqueness law in proofs/. And each number of docs/CODES.md has a wrong
+content of what it is lent to change: an equation, or a record of specs/ with a uniqueness law in proofs/; docs/EXCEPTIONS.md names those that have none. And each number of docs/CODES.md has a wrong
 program (a must-fail edit of src/) that names it. Exit status 1 where that is not so."""
 import glob
 import os
@@ -57,9 +57,15 @@ def determined(name, said, result, lent, laws):
     return bool(says_result) and all(f'now ({x} .exit)' in about for x in lent)
 
 
+def exceptions():
+    """The functions that docs/EXCEPTIONS.md names as not determined, as crate::function."""
+    said = re.search(r'^Result not determined: (.*?)\.\s', read(os.path.join(TOP, 'docs', 'EXCEPTIONS.md')), re.M | re.S)
+    return {f'{crate}::{fn}' for fn, crate in re.findall(r'`(\w+)` of `(\w+)`', said.group(1))}
+
+
 def contracts():
     laws = unique_laws()
-    wrong, seen = [], 0
+    wrong, seen, excepted = [], 0, exceptions()
     for path in sorted(glob.glob(os.path.join(TOP, 'crates', '*', 'src', '*.rt'))):
         crate = path.split(os.sep)[-3]
         if os.path.exists(os.path.join(TOP, 'crates', crate, 'src', 'main.rt')):
@@ -67,9 +73,12 @@ def contracts():
         for fn, parameters, result, ensures in functions(read(path)):
             seen += 1
             lent = re.findall(r'(\w+): &mut', parameters)
-            if not any(determined(name, said, result, lent, laws) for name, said in ensures):
-                wrong.append(f'{os.path.relpath(path, TOP)}: what `{fn}` gives is not determined by its contract')
-    return wrong, seen
+            is_determined = any(determined(name, said, result, lent, laws) for name, said in ensures)
+            is_excepted = f'{crate}::{fn}' in excepted
+            excepted.discard(f'{crate}::{fn}')
+            if is_determined == is_excepted:
+                wrong.append(f'{os.path.relpath(path, TOP)}: what `{fn}` gives is {"" if is_determined else "not "}determined by its contract')
+    return wrong + [f'docs/EXCEPTIONS.md: no public function {name}' for name in sorted(excepted)], seen
 
 
 def codes():
@@ -94,7 +103,8 @@ def main():
         print('claims: no function or no code was found')
         sys.exit(1)
     if not wrong and not more:
-        print(f'claims: {seen} public functions, each determined by its contract; {numbers} codes and refusals, each with a wrong program')
+        but = f' but for {len(exceptions())} that docs/EXCEPTIONS.md names'
+        print(f'claims: {seen} public functions, each determined by its contract{but}; {numbers} codes and refusals, each with a wrong program')
     sys.exit(1 if wrong or more else 0)
 
 

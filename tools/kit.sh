@@ -33,6 +33,66 @@ kit_version() {
     fi
 }
 
+# A number with its thousands apart, and a count with what it counts.
+kit_grouped() { echo "$1" | sed -e :a -e 's/\(.*[0-9]\)\([0-9]\{3\}\)/\1,\2/' -e ta; }
+kit_counted() { if [ "$1" -eq 1 ]; then echo "1 $2"; else echo "$(kit_grouped "$1") $2s"; fi; }
+
+# A bench file that is to be read: '-' is standard input. These three run in any folder. Sets name, or ends the script by its own fail.
+kit_readable() { # FILE
+    name=$1
+    if [ "$1" = - ]; then
+        name='standard input'
+        (exec 3<&0) 2>/dev/null || fail "standard input is closed"
+        return
+    fi
+    [ -e "$1" ] || fail "$name: no such file"
+    [ ! -d "$1" ] || fail "$name is a folder, not a file"
+    [ -r "$1" ] || fail "$name can't be read"
+}
+
+# Copies it from standard input, up to a byte more than it may have; the programs read no further.
+kit_copy() { # COPY MOST
+    head -c $(($2 + 1)) 2>/dev/null >"$1"
+}
+
+# Prints how long it is, the rest of it being on standard input. Of what may have no end no more than this is read: 'N or more' then.
+kit_size() { # COPY MOST
+    size=$(wc -c <"$1")
+    if [ "$size" -le "$2" ]; then
+        echo $((size))
+    elif [ -f /dev/stdin ]; then
+        echo $((size + $(wc -c)))
+    else
+        size=$((size + $(head -c $((9999999 - $2)) | wc -c)))
+        if [ "$size" -lt 10000000 ]; then echo "$size"; else echo "$size or more"; fi
+    fi
+}
+
+# Why a bench file is refused.
+kit_refusal() { # NUMBER COPY MOST SIZE
+    case $1 in
+    6) shift; kit_misfit "$@" ;;
+    7) echo "its packets' word counts don't sum up to the header's" ;;
+    5) echo 'a field of a packet is out of its range' ;;
+    3) echo 'a packet has more than 4,096 words' ;;
+    esac
+}
+
+# Why with 6: the first that holds, in the order of the definition (crates/bench_file/specs/File.antt, misfit).
+kit_misfit() { # COPY MOST SIZE
+    size=${3%% *}
+    [ "$size" -ge 16 ] || { echo "$(kit_counted "$size" byte); at least 16"; return; }
+    [ "$size" -le "$2" ] || { echo "$(kit_counted "$size" byte)${3#"$size"}; at most $(kit_grouped "$2")"; return; }
+    # its header: packets, words, packet offset, word offset
+    # shellcheck disable=SC2046 # four words
+    set -- "$size" $(od -An -v -tu1 -N16 "$1" | awk '{ for (i = 1; i <= NF; i++) b[n++] = $i }
+        END { for (k = 0; k < 16; k += 4) printf "%.0f ", b[k] + 256 * (b[k + 1] + 256 * (b[k + 2] + 256 * b[k + 3])) }')
+    [ "$4" -eq 16 ] || { echo "not a bench file: its packet offset is $4, not 16"; return; }
+    at=$((16 + 24 * $2))
+    [ "$5" -eq $at ] || { echo "the header says $(kit_counted "$2" packet) and a word offset of $5, not $at"; return; }
+    echo "the header says $(kit_counted "$3" word), $(kit_counted "$1" byte) are there, not $(kit_grouped $((at + 10 * $3)))"
+}
+
 # Sets kit, its folder; tools, its compiler and C library for this machine; emulator, empty on x86-64.
 kit_find() {
     kit=$(cd "$(dirname "$(readlink -f "$(command -v rt)")")/.." && pwd -P)
