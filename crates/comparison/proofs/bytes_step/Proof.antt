@@ -19,13 +19,13 @@ within : (c : tie.Then1) → c .before .before .before .before .before .before .
 within c = omega (arith, c .if1 .taken, c .before .before .smaller .ensures, c .before .before .before .before .count-at .ensures .0, c .before .before .before .count-at2 .ensures .0)
 
 add-byte-at : tie.Need-add-byte-at
-add-byte-at c = omega (arith, both-few (c .before .before .before .before .before .before .before .before .before .before .before .pre .0) .0, within (c .before .before .before))
+add-byte-at c = omega (arith, both-few (c .before .before .before .before .before .before .before .before .before .before .before .pre .0) .0, both-few (c .before .before .before .before .before .before .before .before .before .before .before .pre .0) .1, within (c .before .before .before))
 
 byte-at-requires : tie.Need-byte-at-requires
 byte-at-requires c κs = (both-have-word (c .before .before .before .before .before .before .before .before .before .before .before .pre .0) (within (c .before .before .before)) .0, omega arith)
 
 add-byte-at-2 : tie.Need-add-byte-at-2
-add-byte-at-2 c = omega (arith, both-few (c .before .before .before .before .before .before .before .before .before .before .before .before .before .pre .0) .1, within (c .before .before .before .before .before))
+add-byte-at-2 c = omega (arith, both-few (c .before .before .before .before .before .before .before .before .before .before .before .before .before .pre .0) .0, both-few (c .before .before .before .before .before .before .before .before .before .before .before .before .before .pre .0) .1, within (c .before .before .before .before .before))
 
 byte-at-requires-2 : tie.Need-byte-at-requires-2
 byte-at-requires-2 c κs = (both-have-word (c .before .before .before .before .before .before .before .before .before .before .before .before .before .pre .0) (within (c .before .before .before .before .before)) .1, omega arith)
