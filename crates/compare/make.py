@@ -9,6 +9,9 @@ import re
 import sys
 
 HERE = os.path.dirname(os.path.abspath(__file__))
+sys.dont_write_bytecode = True  # no __pycache__ beside the tools
+sys.path.insert(0, os.path.join(HERE, "../../tools"))
+import made
 
 
 def first():
@@ -53,22 +56,5 @@ differences 14
 """
 
 
-def main():
-    made = {"data/first.bench": first(), "data/second.bench": bytes(second()), "stdout": LINES.encode()}
-    if sys.argv[1:] == ["--check"]:
-        wrong = [name for name, content in made.items() if read(name) != content]
-        for name in wrong:
-            print("compare: %s is not what make.py makes" % name)
-        sys.exit(1 if wrong else 0)
-    for name, content in made.items():
-        with open(os.path.join(HERE, name), "wb") as f:
-            f.write(content)
-
-
-def read(name):
-    path = os.path.join(HERE, name)
-    return open(path, "rb").read() if os.path.exists(path) else None
-
-
 if __name__ == "__main__":
-    main()
+    made.made(HERE, {"data/first.bench": first(), "data/second.bench": bytes(second()), "stdout": LINES.encode()})

@@ -11,6 +11,9 @@ import struct
 import sys
 
 HERE = os.path.dirname(os.path.abspath(__file__))
+sys.dont_write_bytecode = True  # no __pycache__ beside the tools
+sys.path.insert(0, os.path.join(HERE, "../../tools"))
+import made
 
 
 # Words, from 01, "Words": the bits 71:0, and the id in byte 9.
@@ -190,24 +193,9 @@ def main():
     source = open(os.path.join(HERE, "src/main.rt")).read()
     told = int(re.search(r"const FILES: u8 = (\d+);", source).group(1))
     assert told == len(CASES), "src/main.rt opens %d files, and there are %d cases" % (told, len(CASES))
-    made = {"data/c%02d" % i: content for i, (_, content, _) in enumerate(CASES)}
-    made["stdout"] = ("".join("c%02d\n%s" % (i, lines) for i, (_, _, lines) in enumerate(CASES)) + CALLS).encode()
-    there = {"data/" + name for name in os.listdir(os.path.join(HERE, "data"))}
-    if sys.argv[1:] == ["--check"]:
-        wrong = sorted(there - set(made)) + [n for n, content in made.items() if read(n) != content]
-        for name in wrong:
-            print("edges: %s is not what make.py makes" % name)
-        sys.exit(1 if wrong else 0)
-    for name in there - set(made):
-        os.remove(os.path.join(HERE, name))
-    for name, content in made.items():
-        with open(os.path.join(HERE, name), "wb") as f:
-            f.write(content)
-
-
-def read(name):
-    path = os.path.join(HERE, name)
-    return open(path, "rb").read() if os.path.exists(path) else None
+    files = {"data/c%02d" % i: content for i, (_, content, _) in enumerate(CASES)}
+    files["stdout"] = ("".join("c%02d\n%s" % (i, lines) for i, (_, _, lines) in enumerate(CASES)) + CALLS).encode()
+    made.made(HERE, files)
 
 
 assert whole() == WHOLE_CASE
