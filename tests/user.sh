@@ -380,7 +380,7 @@ try_command 'run a path' 2 "$work/nothing" "no program '../crates/fields' here" 
 try_command 'run without a name' 2 "$work/nothing" 'usage' ./run
 
 # what they say of themselves; elsewhere, where only what they print of themselves can help
-for command in check compare run test tools/native-lib.sh; do
+for command in check compare run test tools/native-lib.sh tools/must-fail.sh; do
     kit_help "$command" >"$work/help"
     what="$command: its head"
     grep -q "^\(${command##*/}\|The tests\)" "$work/help" || wrong 'has no line that says what it is'

@@ -86,7 +86,7 @@ def codes():
     records, refusals = read(os.path.join(TOP, 'docs', 'CODES.md')).split('\n## Refusals\n')
     numbers = re.findall(r'^\| (\d+)(?: R)? \|', records, re.M) + ['refusal ' + n for n in re.findall(r'^\| (\d+) \|', refusals, re.M)]
     named = set()
-    for path in glob.glob(os.path.join(TOP, 'crates', '*', 'must-fail', '*.edit')):
+    for path in glob.glob(os.path.join(TOP, 'crates', '*', 'must-fail', '**', '*.edit'), recursive=True):
         edit = read(path)
         if re.search(r'^file: src/', edit, re.M):
             said = edit[:re.search(r'^file: ', edit, re.M).start()]
