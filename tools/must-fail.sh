@@ -127,7 +127,7 @@ for c; do
 done
 jobs=${RT_JOBS:-$(nproc 2>/dev/null || echo 1)}
 [ -n "${RT_JOBS-}" ] || [ "$jobs" -le 4 ] || jobs=4
-# In memory where there is room for it: a check writes and removes some thousand small files, which takes a third of its time on a disk.
+# In memory where there is room for it: a check writes and removes some thousand small files. On a disk that took up to a third of its time.
 memory=$(df -Pk /dev/shm 2>/dev/null | awk 'NR == 2 { print $4 }')
 scratch=/tmp
 [ "${memory:-0}" -lt 4000000 ] || [ ! -w /dev/shm ] || scratch=/dev/shm
@@ -137,7 +137,7 @@ trap 'exit 1' HUP INT TERM
 work=$(readlink -f "$work")
 export TMPDIR="$work"
 
-# The upper crates take the longest, so that they come first.
+# The upper crates take the longest, so they come first.
 all=$(sed -n 's/#.*//; s/^\([a-z0-9_]*\):.*/\1/p' crates.txt | awk '{ name[NR] = $0 } END { for (i = NR; i > 0; i--) print name[i] }')
 crates=
 for c in $all; do
