@@ -454,6 +454,41 @@ static void written_data(void)
     expect(memcmp(place, marked, sizeof place) == 0, "a refused data word is written");
 }
 
+/* Whether the worst lane of a word is the worst of its 28, which are read one by one, and each of these has its two bits. */
+static bool lanes_agree(const uint8_t *word)
+{
+    khz_status_answer r = khz_worst_lane(word, KHZ_WORD_BYTES);
+    uint64_t worst = KHZ_GOOD;
+
+    for (uint64_t lane = 0; lane < KHZ_LANES; lane++) {
+        khz_status_answer s = khz_lane_status(word, KHZ_WORD_BYTES, lane);
+        if (s.refusal != KHZ_DONE || s.status != (word[lane / 4] >> lane % 4 * 2 & 3U))
+            return false;
+        if (s.status > worst)
+            worst = s.status;
+    }
+    return r.refusal == KHZ_DONE && r.status == worst;
+}
+
+/* Each value of each byte of lanes, with all other lanes in each status; bits that are no lane's are clear, then set. */
+static void worst_lane(void)
+{
+    uint8_t word[KHZ_WORD_BYTES];
+    char wrong[64] = "";                             /* the last word that is answered wrongly */
+
+    for (int rest = 0; rest <= 0xFF; rest += 0xFF)
+        for (int others = KHZ_GOOD; others <= KHZ_FATAL; others++)
+            for (int byte = 0; byte < KHZ_LANES / 4; byte++)
+                for (int value = 0; value <= 0xFF; value++) {
+                    memset(word, 0x55 * others, KHZ_LANES / 4);
+                    memset(word + KHZ_LANES / 4, rest, KHZ_WORD_BYTES - KHZ_LANES / 4);
+                    word[byte] = (uint8_t)value;
+                    if (!lanes_agree(word))
+                        snprintf(wrong, sizeof wrong, "worst lane: byte %d is %d, lanes of the others %d, the rest %d", byte, value, others, rest);
+                }
+    expect(!*wrong, wrong);
+}
+
 /* Each lane with each status, alone and beside a lane with another; bits that are no lane's are set throughout. */
 static void lane_status(void)
 {
@@ -472,7 +507,7 @@ static void lane_status(void)
                 word[other / 4] |= (uint8_t)(b << other % 4 * 2);
                 r = khz_worst_lane(word, KHZ_WORD_BYTES);
                 s = khz_lane_status(word, KHZ_WORD_BYTES, lane);
-                if (r.refusal != KHZ_DONE || r.status != (a > b ? a : b) || s.refusal != KHZ_DONE || s.status != a)
+                if (r.refusal != KHZ_DONE || r.status != (a > b ? a : b) || s.refusal != KHZ_DONE || s.status != a || !lanes_agree(word))
                     snprintf(wrong, sizeof wrong, "status %d of lane %d beside status %d of lane %d", (int)a, (int)lane, (int)b, (int)other);
             }
     expect(!*wrong, wrong);
@@ -507,6 +542,7 @@ int main(void)
     written_faults();
     written_data();
     lane_status();
+    worst_lane();
     printf("boundary: %u checks, %u failed\n", checks, failed);
     return failed ? 1 : 0;
 }
