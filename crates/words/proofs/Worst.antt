@@ -66,6 +66,7 @@ counts n a h = omega arith
 two-bits : (a b : ℕ) → a < 2 → b < 2 → 2 * b + a ≡ worstOf a b (min a b)
 two-bits a b p q = omega arith
 
+-- So the larger of two such answers is the answer to what both have seen.
 swap : (a b c d : ℕ) → max (max a b) (max c d) ≡ max (max a c) (max b d)
 swap a b c d = omega arith
 
@@ -105,6 +106,7 @@ last-lane (suc n) x =
     let down : x / 4 / 2 ^ (2 * n) ≡ x / 2 ^ (2 * suc n) = shr-shr x 2 (2 * n) ∙ ap (λ (k : ℕ). x / 2 ^ k) e in
     omega (arith, last-lane n (x / 4), ap (λ (y : ℕ). y % 4) down)
 
+-- The lanes of a word stand in its lower half.
 module _ (w : Word) (fits : w .lo < 2 ^ 64) where
   lane : (n : ℕ) → n < lanes → laneStatus n w ≡ w .lo / 2 ^ (2 * n) % 4
   lane n h =
@@ -116,5 +118,6 @@ module _ (w : Word) (fits : w .lo < 2 ^ 64) where
   below zero h = refl
   below (suc n) h = ap₂ max (below n (omega arith)) (lane n h) ∙ sym (last-lane n (w .lo))
 
+  -- The law: of any number of lanes, what their bits say at once is the worst of them.
   pub worst-at-once : (n : ℕ) → n ≤ lanes → worstBelow n w ≡ worstBy (lows n (w .lo)) (highs n (w .lo)) (boths n (w .lo))
   worst-at-once n h = below n h ∙ from-at-once n (w .lo)
