@@ -1,5 +1,5 @@
 /* boundary.c: the C boundary by example: 01's whole case through word and payload calls, every number and length that comes in about the edge of
- * its range, khz_check_file about its edges, and the writers of words beside a model that sets bit after bit.
+ * its range, khz_check_file about its edges, the writers of words beside a model that sets bit after bit, and the worst lane beside all 28.
  *
  *     cc -std=c11 -I include tests/boundary.c target/staticlib/libkhandzorul.a -o /tmp/boundary && /tmp/boundary
  *
@@ -474,7 +474,7 @@ static bool lanes_agree(const uint8_t *word)
 static void worst_lane(void)
 {
     uint8_t word[KHZ_WORD_BYTES];
-    char wrong[64] = "";                             /* the last word that is answered wrongly */
+    char wrong[80] = "";                             /* the last word that is answered wrongly */
 
     for (int rest = 0; rest <= 0xFF; rest += 0xFF)
         for (int others = KHZ_GOOD; others <= KHZ_FATAL; others++)
