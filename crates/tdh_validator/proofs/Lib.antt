@@ -1,1 +1,2 @@
 pub mod Period
+pub mod Chain

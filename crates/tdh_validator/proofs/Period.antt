@@ -1,12 +1,19 @@
--- The found period: it is one, and no other number is. A period of 3564 is never found.
+-- The found period: it is one, and no other number is. A period of 3564 is never found. What a record tells of it.
 -- Assumes nothing.
-use Prim.Native.Nat.{ℕ, _+_, _%_, _≤_, _<_}
+use Prim.Native.Nat.{ℕ, _+_, _%_, _<_}
 use mathlib.Core.Path.{_≡_}
+use mathlib.Core.Bool.{true}
 use native.Mathlib.Omega.{arith}
-use Rattle.words.specs.Tdh.{maxBc}
-use Rattle.tdh_validator.specs.Tdh.{crossings, IsPeriod, period}
+use borrow.Author.Tests.{le-ltb}
+use Rattle.words.specs.declared.Word.{Word}
+use Rattle.words.specs.Tdh.{maxBc, triggerBc}
+use Rattle.records.specs.Records.{when}
+use Rattle.validators.specs.declared.Settings.{Settings}
+use Rattle.validators.specs.declared.InternalTdh.{InternalTdh}
+use Rattle.validators.specs.Detail.{differ}
+use Rattle.tdh_validator.specs.Tdh.{Legal, crossings, IsPeriod, period, asked, interval}
 
-module _ (previous current : ℕ) (legal : previous ≤ maxBc) (legal′ : current ≤ maxBc) where
+module _ (previous current : ℕ) (legal : Legal previous) (legal′ : Legal current) where
   pub period-is : IsPeriod previous current (period previous current)
   period-is = record { below = omega arith; meets = omega arith }
 
@@ -16,3 +23,8 @@ module _ (previous current : ℕ) (legal : previous ≤ maxBc) (legal′ : curre
   -- "For legal BCs a set period of 3564 always differs."
   pub never-3564 : period previous current ≡ 3564 → ⊥
   never-3564 e = omega (arith, period-is .below)
+
+-- What a record tells of an interval that is looked at, between legal crossings: 45 gives it as its first number; without 45 it is the set period.
+pub period-told : (s : Settings) (earlier : InternalTdh) (w : Word) → Legal (earlier .bc) → Legal (triggerBc w) → asked s earlier w ≡ true
+    → interval s earlier w ≡ when (differ (period (earlier .bc) (triggerBc w)) (s .period)) 45 (period (earlier .bc) (triggerBc w)) (s .period)
+period-told s earlier w legal legal′ looked = simp (le-ltb maxBc (earlier .bc) legal, le-ltb maxBc (triggerBc w) legal′, looked)

@@ -1,6 +1,6 @@
 -- 01, "Records": the three kinds of TDH, and the interval.
 -- Assumes nothing.
-use Prim.Native.Nat.{ℕ, _+_, _-_, _/_, _%_, _^_, _<_}
+use Prim.Native.Nat.{ℕ, _+_, _-_, _/_, _%_, _^_, _≤_, _<_}
 use mathlib.Core.Path.{_≡_}
 use mathlib.Core.Bool.{Bool, cond, _&&_, _||_}
 use mathlib.Core.List.{List, [], _∷_}
@@ -22,6 +22,10 @@ detail w =
     cond (eqb (idOf w) tdhId)
     (cond (isReserved0 w) 0 2 + cond (eqb (triggerType w) 0 && eqb (internalTrigger w) 0) 4 0)
     1
+
+-- "3563 is the last legal crossing."
+abbrev pub Legal : ℕ → Type 0
+Legal bc = bc ≤ maxBc
 
 -- "For legal BCs the found period is the one number below 3564 that added to previous gives current modulo 3564."
 abbrev pub crossings : ℕ
