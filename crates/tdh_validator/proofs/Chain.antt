@@ -1,5 +1,5 @@
 -- Intervals add up modulo 3564: two of them, and those of a chain. 0 exactly for equal crossings; there and back 0 or 3564.
--- All by what a period is (`IsPeriod`): that it is one and the only one (`period-is`, `period-only`). Its formula is not looked at.
+-- The laws go by what 01 calls a period (`IsPeriod`, `period-is`, `period-only`) and not by its formula; the examples alone compute it.
 -- Assumes nothing.
 use Prim.Native.Nat.{ℕ, _+_, _%_, _≤_, _<_}
 use mathlib.Core.Path.{_≡_, refl, sym, subst, _∙_}
