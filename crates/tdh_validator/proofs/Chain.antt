@@ -105,7 +105,7 @@ chain-false law = none-to-3564 3366 _ (law 3366 (3564 ∷ []) (omega arith, (ome
 pub zero-false : ((a b : ℕ) → OneFurther a → OneFurther b → period a b ≡ 0 → a ≡ b) → ⊥
 zero-false law = let same = law 0 3564 (omega arith) (omega arith) refl in omega (arith, same)
 
--- In the middle 3564 goes unnoticed: 3366, 3564, 198 is no chain, and still its numbers add up. It is 1045 that tells of it, and no sum does.
+-- In the middle 3564 goes unnoticed: 3366, 3564, 198 is no chain, and still its numbers add up. It is 1045 that tells of it, and not the sum.
 pub unnoticed : intervals 3366 (3564 ∷ 198 ∷ []) % crossings ≡ period 3366 198
 unfolding intervals
 unnoticed = refl
