@@ -1,34 +1,40 @@
--- The theorem says something: kinds and records differ with the input and with the past, its conditions can be met, and each of the three words that are to
--- be met is needed.
+-- The theorem says something: kinds and records differ with the input and with the past, its conditions can be met, by either marker, and each
+-- is needed.
 -- Assumes nothing.
-use Prim.Native.Nat.{ℕ, _+_, _≤_}
+use Prim.Native.Nat.{ℕ, _+_, _*_, _≤_}
 use mathlib.Core.Path.{_≡_, refl, ap}
 use mathlib.Core.Bool.{Bool, true, false}
 use mathlib.Core.List.{List, [], _∷_, _++_}
 use native.Mathlib.Omega.{arith}
 use borrow.Author.Tests.{eqb-false}
+use lib.Dec.{eqb}
 use lib.ListN.{replicate}
 use Rattle.words.specs.declared.Word.{Word}
 use Rattle.words.specs.Word.{number, wordOf, bits}
 use Rattle.payload_fsm.specs.Kinds.{kindNumber}
-use Rattle.payload_fsm.specs.Settle.{DataClear, TdtDone}
-use Rattle.records.specs.Records.{flat, given, Each}
+use Rattle.payload_fsm.specs.Settle.{DataClear, TdtDone, TdhClear, Marker, three-data, short-frame}
+use Rattle.records.specs.Records.{mostRecords, recordWidth, flat, given, Each}
 use Rattle.validators.specs.declared.Settings.{Settings}
 use Rattle.validators.specs.declared.Packet.{Packet}
 use Rattle.cdp_running.specs.declared.Tracker.{Tracker}
 use Rattle.cdp_running.specs.declared.Told.the-variants.{Taken, Refused}
-use Rattle.cdp_running.specs.Tracker.{startOf, packetCall}
+use Rattle.cdp_running.specs.Tracker.{Good, startOf, packetCall}
 use Rattle.cdp_running.specs.Word.{recordsOf, takenOf, wordCall}
 use Rattle.payload.specs.Payload.{wordsFrom, payloadCall, wordCalls, payloadCalls}
 use Rattle.forgetting.specs.Calls.{Call, packet, word, payload, reset, run, Answer, answers, Kind, kind, refusal, kindsIn, kinds, tookIn, took, wordsIn}
 use Rattle.forgetting.specs.Forget.{NoReset, AcceptedMarker, Roomy, Begins, asIhw, asInternalTdh, asFirstCdw, some, HasMet}
+use Rattle.forgetting.proofs.Forgetting.{forgetting}
 
--- Ten bytes: the first three, byte 8, and the id; a word call with room; and the words that are used below.
+-- Ten bytes: the first three, byte 8, and the id; a word call with room for so many records; and the words that are used below, with room for the
+-- most that a word gives.
 abbrev pub ten : ℕ → ℕ → ℕ → ℕ → ℕ → List ℕ
 ten a b c done id = a ∷ b ∷ c ∷ 0 ∷ 0 ∷ 0 ∷ 0 ∷ 0 ∷ done ∷ id ∷ []
 
+abbrev pub sayIn : ℕ → List ℕ → Call
+sayIn records bytes = word bytes (replicate (records * recordWidth) 0)
+
 abbrev pub say : ℕ → ℕ → ℕ → ℕ → ℕ → Call
-say a b c done id = word (ten a b c done id) (replicate 24 0)
+say a b c done id = sayIn mostRecords (ten a b c done id)
 
 abbrev pub ihw : ℕ → Call
 ihw lanes = say lanes 0 0 0 0xE0
@@ -58,15 +64,19 @@ settings = record { running = true; frames = true; periodic = true; period = 198
 pub begun : Tracker
 begun = run (startOf settings) (header ∷ [])
 
--- The marker. At the start its first word is taken as IHW, and its second as TDH, here with internal trigger.
-abbrev pub marker : ℕ → ℕ → List Call
-marker lanes bc = data-word lanes ∷ say 0 0x10 bc 0 0x20 ∷ data-word 0 ∷ tdt-done ∷ []
+-- The two markers, each at the start. The first of three data words is taken as IHW there, and the second as TDH, here with internal trigger; a short
+-- frame has these words of its own, the IHW before the marker.
+abbrev pub three : ℕ → ℕ → List Call
+three lanes bc = data-word lanes ∷ say 0 0x10 bc 0 0x20 ∷ data-word 0 ∷ tdt-done ∷ []
+
+abbrev pub short : ℕ → ℕ → List Call
+short lanes bc = ihw lanes ∷ internal-tdh bc ∷ data-word 0 ∷ tdt-done ∷ []
 
 -- The number of the first kind, and the records of all answers.
 pub first-kind : List (List Kind) → ℕ
 first-kind ((kind k guessed ∷ ks) ∷ rest) = kindNumber k
-first-kind ((refusal n ∷ ks) ∷ rest) = 0
-first-kind ([] ∷ rest) = 0
+first-kind ((refusal n ∷ ks) ∷ rest) = first-kind rest
+first-kind ([] ∷ rest) = first-kind rest
 first-kind [] = 0
 
 pub counted : List Answer → ℕ
@@ -77,78 +87,245 @@ counted (word (Refused n) buffer ∷ rest) = counted rest
 counted (payload words records n buffer ∷ rest) = records + counted rest
 counted (reset ∷ rest) = counted rest
 
--- The same word is an IHW after one past, and a TDH after another: without the marker kinds differ.
-pub kinds-differ : kinds begun (ihw 1 ∷ []) ≡ kinds (run begun (ihw 1 ∷ [])) (ihw 1 ∷ []) → ⊥
+-- The same word is an IHW after one past, and a TDH after another: without a marker kinds differ.
+pub kinds-differ : kinds begun (header ∷ ihw 1 ∷ []) ≡ kinds (run begun (ihw 1 ∷ [])) (header ∷ ihw 1 ∷ []) → ⊥
 unfolding begun first-kind run kinds kindsIn packetCall wordCall takenOf recordsOf given wordOf number bits
 kinds-differ e = eqb-false 1 3 refl (ap first-kind e)
 
--- What differs between two pasts that both end in the marker, after the same calls.
-abbrev pub Differ : List Call → List Call → List Call → List Call → Type 0
-Differ past past′ calls later = answers (run (run begun past) calls) later ≡ answers (run (run begun past′) calls) later → ⊥
+-- What the theorem asks, one by one; none is for leaving out nothing.
+pub data Condition : Type 0 where
+  none : Condition
+  equal-settings : Condition
+  has-marker : Condition
+  not-reset : Condition
+  packet-first : Condition
+  has-room : Condition
+  met-ihw : Condition
+  met-internal : Condition
+  met-cdw : Condition
 
--- One of the three is needed: two pasts and calls that meet all that the theorem asks, of the three all but this one, and a later answer that differs.
-pub record Needed (past past′ calls later : List Call) (ihw internal cdw : Bool) : Type 0 where
-  pub marker : AcceptedMarker begun past
-  pub marker′ : AcceptedMarker begun past′
-  pub begins : Begins (calls ++ later)
-  pub roomy : Each Roomy (calls ++ later)
-  pub has-ihw : some asIhw (took (run begun past) calls) ≡ ihw
-  pub has-internal : some asInternalTdh (took (run begun past) calls) ≡ internal
-  pub has-cdw : some asFirstCdw (took (run begun past) calls) ≡ cdw
-  pub differ : Differ past past′ calls later
+abbrev place : Condition → ℕ
+place none = 0
+place equal-settings = 1
+place has-marker = 2
+place not-reset = 3
+place packet-first = 4
+place has-room = 5
+place met-ihw = 6
+place met-internal = 7
+place met-cdw = 8
 
--- Such a past: words that its calls took, and then the marker.
-third : DataClear (wordOf (ten 0 0 0 0 0x20))
+abbrev pub unless : Bool → Type 0 → Type 0
+unless true A = Unit
+unless false A = A
+
+-- A condition is asked unless it is the one that is left out.
+abbrev pub But : Condition → Condition → Type 0 → Type 0
+But left this A = unless (eqb (place left) (place this)) A
+
+-- Words that end in a marker: with no reset between, an accepted marker.
+pub record EndsInMarker (words : List Word) : Type 0 where
+  pub earlier : List Word
+  pub marker : List Word
+  pub is : words ≡ earlier ++ marker
+  pub is-marker : Marker marker
+
+pub accepted : (t : Tracker) (past : List Call) → EndsInMarker (wordsIn (took t past)) → Each NoReset past → AcceptedMarker t past
+accepted t past m no-reset = record { earlier = m .earlier; marker = m .marker; words = m .is; is-marker = m .is-marker; no-reset = no-reset }
+
+-- A condition is needed: two trackers, pasts and calls that meet all others, and a later answer that differs. Where a marker is left out, or a reset
+-- let in, that is in the first past.
+pub record Needed (left : Condition) (t u : Tracker) (past past′ calls later : List Call) : Type 0 where
+  pub settings-equal : But left equal-settings (t .settings ≡ u .settings)
+  pub marker : But left has-marker (EndsInMarker (wordsIn (took t past)))
+  pub no-reset : But left not-reset (Each NoReset past)
+  pub marker′ : AcceptedMarker u past′
+  pub begins : But left packet-first (Begins (calls ++ later))
+  pub roomy : But left has-room (Each Roomy (calls ++ later))
+  pub has-ihw : But left met-ihw (some asIhw (took (run t past) calls) ≡ true)
+  pub has-internal : But left met-internal (some asInternalTdh (took (run t past) calls) ≡ true)
+  pub has-cdw : But left met-cdw (some asFirstCdw (took (run t past) calls) ≡ true)
+  pub differ : answers (run (run t past) calls) later ≡ answers (run (run u past′) calls) later → ⊥
+
+-- They are all: with none left out, no answer differs.
+pub all-asked : {t u : Tracker} {past past′ calls later : List Call} → Good t → Good u → Needed none t u past past′ calls later → ⊥
+all-asked {t} {u} {past} {past′} {calls} {later} gt gu n =
+    let m = accepted t past (n .marker) (n .no-reset) in
+    let f = forgetting t u past past′ calls later gt gu (n .settings-equal) m (n .marker′) (n .begins) (n .roomy) in
+    n .differ (f .answers-agree (record { ihw = n .has-ihw; internal-tdh = n .has-internal; first-cdw = n .has-cdw }))
+
+-- The words of the two markers. Below, the first past ends in a short frame, and the second in three data words and a TDT.
+data-0 : DataClear (wordOf (ten 0 0 0 0 0x20))
 unfolding wordOf number bits
-third = record { data-id = refl; clear = refl }
+data-0 = record { data-id = refl; clear = refl }
 
-fourth : TdtDone (wordOf (ten 0 0 0 1 0xF0))
+done : TdtDone (wordOf (ten 0 0 0 1 0xF0))
 unfolding wordOf number bits
-fourth = record { tdt-id = refl; done = refl }
+done = record { tdt-id = refl; done = refl }
 
-accepts : (past : List Call) (before : List Word) (lanes bc : ℕ)
-    → wordsIn (took begun past)
+tdh-0 : TdhClear (wordOf (ten 0 0x10 0 0 0xE8))
+unfolding wordOf number bits
+tdh-0 = record { tdh-id = refl; clear = refl }
+
+by-short : {words : List Word} (before : List Word)
+    → words ≡ before ++ (wordOf (ten 0 0x10 0 0 0xE8) ∷ wordOf (ten 0 0 0 0 0x20) ∷ wordOf (ten 0 0 0 1 0xF0) ∷ []) → EndsInMarker words
+by-short before is = record { earlier = before; marker = _; is = is; is-marker = short-frame tdh-0 data-0 done }
+
+by-three : (t : Tracker) (past : List Call) (before : List Word) (lanes bc : ℕ)
+    → wordsIn (took t past)
     ≡ before ++ (wordOf (ten lanes 0 0 0 0x20) ∷ wordOf (ten 0 0x10 bc 0 0x20) ∷ wordOf (ten 0 0 0 0 0x20) ∷ wordOf (ten 0 0 0 1 0xF0) ∷ [])
-    → Each NoReset past → DataClear (wordOf (ten lanes 0 0 0 0x20)) → DataClear (wordOf (ten 0 0x10 bc 0 0x20)) → AcceptedMarker begun past
-accepts past before lanes bc words no-reset first second =
-    record {
-      earlier = before;
-      one = wordOf (ten lanes 0 0 0 0x20);
-      two = wordOf (ten 0 0x10 bc 0 0x20);
-      three = wordOf (ten 0 0 0 0 0x20);
-      last = wordOf (ten 0 0 0 1 0xF0);
-      words = words;
-      first-data = first;
-      second-data = second;
-      third-data = third;
-      tdt-done = fourth;
-      no-reset = no-reset;
-    }
+    → DataClear (wordOf (ten lanes 0 0 0 0x20)) → DataClear (wordOf (ten 0 0x10 bc 0 0x20)) → Each NoReset past → AcceptedMarker t past
+by-three t past before lanes bc is first second no-reset =
+    record { earlier = before; marker = _; words = is; is-marker = three-data first second data-0 done; no-reset = no-reset }
 
-four : Each NoReset (marker 0 0)
+four : Each NoReset (short 0 0)
 four = (tt, (tt, (tt, (tt, tt))))
 
-pub accepted-marker : AcceptedMarker begun (marker 1 0)
+-- Both can be accepted, the second with other lanes or another crossing too; and calls can meet all three.
+ends-short : EndsInMarker (wordsIn (took begun (short 1 0)))
 unfolding begun run took tookIn wordsIn packetCall wordCall takenOf recordsOf given wordOf number bits
-accepted-marker = accepts (marker 1 0) [] 1 0 refl four (record { data-id = refl; clear = refl }) (record { data-id = refl; clear = refl })
+ends-short = by-short (wordOf (ten 1 0 0 0 0xE0) ∷ []) refl
 
--- Room for six records.
-six : {A : Type 0} → A → 6 ≤ 6
-six e = omega arith
+pub accepted-short : AcceptedMarker begun (short 1 0)
+accepted-short = accepted begun (short 1 0) ends-short four
+
+pub accepted-three : AcceptedMarker begun (three 1 0)
+unfolding begun run took tookIn wordsIn packetCall wordCall takenOf recordsOf given wordOf number bits
+accepted-three = by-three begun (three 1 0) [] 1 0 refl (record { data-id = refl; clear = refl }) (record { data-id = refl; clear = refl }) four
+
+other-lanes : AcceptedMarker begun (three 2 0)
+unfolding begun run took tookIn wordsIn packetCall wordCall takenOf recordsOf given wordOf number bits
+other-lanes = by-three begun (three 2 0) [] 2 0 refl (record { data-id = refl; clear = refl }) (record { data-id = refl; clear = refl }) four
+
+other-crossing : AcceptedMarker begun (three 1 1)
+unfolding begun run took tookIn wordsIn packetCall wordCall takenOf recordsOf given wordOf number bits
+other-crossing = by-three begun (three 1 1) [] 1 1 refl (record { data-id = refl; clear = refl }) (record { data-id = refl; clear = refl }) four
+
+pub met : HasMet (took (run begun (short 1 0)) (header ∷ ihw 1 ∷ internal-tdh 0 ∷ cdw 0 ∷ []))
+unfolding begun some run took tookIn packetCall wordCall takenOf recordsOf given wordOf number bits
+met = record { ihw = refl; internal-tdh = refl; first-cdw = refl }
+
+-- Room for the most records.
+room : {A : Type 0} → A → mostRecords ≤ mostRecords
+room e = omega arith
+
+-- A data word of lane 1, which is not active, gets 1072 with running checks only.
+abbrev pub all-three : List Call
+all-three = header ∷ ihw 1 ∷ internal-tdh 0 ∷ cdw 0 ∷ []
+
+pub begun-plain : Tracker
+begun-plain = run (startOf (record { running = false; frames = true; periodic = true; period = 198 })) (header ∷ [])
+
+pub needs-settings : Needed equal-settings begun begun-plain (short 1 0) (three 1 0) all-three (say 0 0 0 0 0x21 ∷ [])
+unfolding begun begun-plain counted some run answers took tookIn wordsIn packetCall wordCall takenOf recordsOf given flat wordOf number bits
+needs-settings =
+    record {
+      settings-equal = tt;
+      marker = ends-short;
+      no-reset = four;
+      marker′ = by-three begun-plain (three 1 0) [] 1 0 refl (record { data-id = refl; clear = refl }) (record { data-id = refl; clear = refl }) four;
+      begins = refl;
+      roomy = (tt, (room, (room, (room, (room, tt)))));
+      has-ihw = refl;
+      has-internal = refl;
+      has-cdw = refl;
+      differ = λ e. eqb-false 1 0 refl (ap counted e);
+    }
+
+-- Without a marker the first tracker is still in its start state, and takes the three words as IHW, TDH and CDW; the other takes the third as a TDH,
+-- so that the CDW after it is its first.
+pub needs-marker : Needed has-marker begun begun [] (three 1 0) (header ∷ data-word 1 ∷ internal-tdh 0 ∷ cdw 0 ∷ []) (cdw 0 ∷ [])
+unfolding begun counted some run answers took tookIn wordsIn packetCall wordCall takenOf recordsOf given flat wordOf number bits
+needs-marker =
+    record {
+      settings-equal = refl;
+      marker = tt;
+      no-reset = tt;
+      marker′ = accepted-three;
+      begins = refl;
+      roomy = (tt, (room, (room, (room, (room, tt)))));
+      has-ihw = refl;
+      has-internal = refl;
+      has-cdw = refl;
+      differ = λ e. eqb-false 1 0 refl (ap counted e);
+    }
+
+-- A reset before the TDT: it is then taken as IHW, and the next word as a TDH.
+abbrev pub resets : List Call
+resets = ihw 1 ∷ internal-tdh 0 ∷ data-word 0 ∷ reset ∷ tdt-done ∷ []
+
+pub needs-no-reset : Needed not-reset begun begun resets (three 1 0) (header ∷ say 0 0x10 0 0 0x20 ∷ cdw 0 ∷ tdt-done ∷ ihw 1 ∷ []) (tdh 0 ∷ [])
+unfolding begun counted some run answers took tookIn wordsIn packetCall wordCall takenOf recordsOf given flat wordOf number bits
+needs-no-reset =
+    record {
+      settings-equal = refl;
+      marker = by-short (wordOf (ten 1 0 0 0 0xE0) ∷ []) refl;
+      no-reset = tt;
+      marker′ = accepted-three;
+      begins = refl;
+      roomy = (tt, (room, (room, (room, (room, (room, tt))))));
+      has-ihw = refl;
+      has-internal = refl;
+      has-cdw = refl;
+      differ = λ e. eqb-false 0 2 refl (ap counted e);
+    }
+
+-- A packet before the TDT: no data is seen in it yet, so that the next CDW is the first data, and is stored. A new packet for both would end that
+-- difference.
+abbrev pub packets : List Call
+packets = ihw 1 ∷ internal-tdh 0 ∷ data-word 0 ∷ header ∷ tdt-done ∷ []
+
+pub needs-packet : Needed packet-first begun begun packets (three 1 0) (ihw 1 ∷ internal-tdh 0 ∷ cdw 0 ∷ []) (header ∷ cdw 1 ∷ [])
+unfolding begun counted some run answers took tookIn wordsIn packetCall wordCall takenOf recordsOf given flat wordOf number bits
+needs-packet =
+    record {
+      settings-equal = refl;
+      marker = by-short (wordOf (ten 1 0 0 0 0xE0) ∷ []) refl;
+      no-reset = (tt, (tt, (tt, (tt, (tt, tt)))));
+      marker′ = accepted-three;
+      begins = tt;
+      roomy = (room, (room, (room, (tt, (room, tt)))));
+      has-ihw = refl;
+      has-internal = refl;
+      has-cdw = refl;
+      differ = λ e. eqb-false 1 0 refl (ap counted e);
+    }
+
+-- A TDH at crossing 198 with no room for 45: where that of the past was at 1 it is refused, and the states part.
+abbrev pub cramped : List Call
+cramped = header ∷ sayIn 0 (ten 0 0x10 198 0 0xE8) ∷ cdw 0 ∷ tdt-done ∷ ihw 1 ∷ []
+
+pub needs-room : Needed has-room begun begun (short 1 0) (three 1 1) cramped (tdh 0 ∷ [])
+unfolding begun counted some run answers took tookIn wordsIn packetCall wordCall takenOf recordsOf given flat wordOf number bits
+needs-room =
+    record {
+      settings-equal = refl;
+      marker = ends-short;
+      no-reset = four;
+      marker′ = other-crossing;
+      begins = refl;
+      roomy = tt;
+      has-ihw = refl;
+      has-internal = refl;
+      has-cdw = refl;
+      differ = λ e. eqb-false 0 2 refl (ap counted e);
+    }
 
 -- A data word of lane 0 gets 1072 where the IHW of the past has not switched it on.
 abbrev pub no-ihw : List Call
 no-ihw = header ∷ internal-tdh 0 ∷ cdw 0 ∷ []
 
-pub needs-ihw : Needed (marker 1 0) (marker 2 0) no-ihw (data-word 0 ∷ []) false true true
+pub needs-ihw : Needed met-ihw begun begun (short 1 0) (three 2 0) no-ihw (data-word 0 ∷ [])
 unfolding begun counted some run answers took tookIn wordsIn packetCall wordCall takenOf recordsOf given flat wordOf number bits
 needs-ihw =
     record {
-      marker = accepted-marker;
-      marker′ = accepts (marker 2 0) [] 2 0 refl four (record { data-id = refl; clear = refl }) (record { data-id = refl; clear = refl });
+      settings-equal = refl;
+      marker = ends-short;
+      no-reset = four;
+      marker′ = other-lanes;
       begins = refl;
-      roomy = (tt, (six, (six, (six, tt))));
-      has-ihw = refl;
+      roomy = (tt, (room, (room, (room, tt))));
+      has-ihw = tt;
       has-internal = refl;
       has-cdw = refl;
       differ = λ e. eqb-false 0 1 refl (ap counted e);
@@ -158,48 +335,49 @@ needs-ihw =
 abbrev pub no-internal : List Call
 no-internal = header ∷ ihw 1 ∷ tdh 0 ∷ cdw 0 ∷ tdt-done ∷ []
 
-pub needs-internal : Needed (marker 1 0) (marker 1 1) no-internal (internal-tdh 198 ∷ []) true false true
+pub needs-internal : Needed met-internal begun begun (short 1 0) (three 1 1) no-internal (internal-tdh 198 ∷ [])
 unfolding begun counted some run answers took tookIn wordsIn packetCall wordCall takenOf recordsOf given flat wordOf number bits
 needs-internal =
     record {
-      marker = accepted-marker;
-      marker′ = accepts (marker 1 1) [] 1 1 refl four (record { data-id = refl; clear = refl }) (record { data-id = refl; clear = refl });
+      settings-equal = refl;
+      marker = ends-short;
+      no-reset = four;
+      marker′ = other-crossing;
       begins = refl;
-      roomy = (tt, (six, (six, (six, (six, (six, tt))))));
+      roomy = (tt, (room, (room, (room, (room, (room, tt))))));
       has-ihw = refl;
-      has-internal = refl;
+      has-internal = tt;
       has-cdw = refl;
       differ = λ e. eqb-false 0 1 refl (ap counted e);
     }
 
 -- A CDW gets 81 where the one of the past has other user fields.
-abbrev pub earlier : ℕ → List Call
-earlier user = ihw 1 ∷ tdh 0 ∷ cdw user ∷ tdt-done ∷ marker 1 0
+abbrev pub with-cdw : ℕ → List Call → List Call
+with-cdw user past = ihw 1 ∷ tdh 0 ∷ cdw user ∷ tdt-done ∷ past
 
-abbrev pub before-marker : ℕ → List Word
-before-marker user = wordOf (ten 1 0 0 0 0xE0) ∷ wordOf (ten 1 0 0 0 0xE8) ∷ wordOf (ten user 0 0 1 0xF8) ∷ wordOf (ten 0 0 0 1 0xF0) ∷ []
+abbrev pub words-before : ℕ → List Word
+words-before user = wordOf (ten 1 0 0 0 0xE0) ∷ wordOf (ten 1 0 0 0 0xE8) ∷ wordOf (ten user 0 0 1 0xF8) ∷ wordOf (ten 0 0 0 1 0xF0) ∷ []
 
-eight : Each NoReset (earlier 0)
+eight : Each NoReset (with-cdw 0 (short 0 0))
 eight = (tt, (tt, (tt, (tt, (tt, (tt, (tt, (tt, tt))))))))
 
 abbrev pub no-cdw : List Call
 no-cdw = header ∷ ihw 1 ∷ internal-tdh 0 ∷ []
 
-pub needs-cdw : Needed (earlier 1) (earlier 2) no-cdw (cdw 1 ∷ []) true true false
+pub needs-cdw : Needed met-cdw begun begun (with-cdw 1 (short 1 0)) (with-cdw 2 (three 1 0)) no-cdw (cdw 1 ∷ [])
 unfolding begun counted some run answers took tookIn wordsIn packetCall wordCall takenOf recordsOf given flat wordOf number bits
 needs-cdw =
     record {
-      marker = accepts (earlier 1) (before-marker 1) 1 0 refl eight (record { data-id = refl; clear = refl }) (record { data-id = refl; clear = refl });
-      marker′ = accepts (earlier 2) (before-marker 2) 1 0 refl eight (record { data-id = refl; clear = refl }) (record { data-id = refl; clear = refl });
+      settings-equal = refl;
+      marker = by-short (words-before 1 ++ (wordOf (ten 1 0 0 0 0xE0) ∷ [])) refl;
+      no-reset = eight;
+      marker′ =
+          by-three begun (with-cdw 2 (three 1 0)) (words-before 2) 1 0 refl
+          (record { data-id = refl; clear = refl }) (record { data-id = refl; clear = refl }) eight;
       begins = refl;
-      roomy = (tt, (six, (six, (six, tt))));
+      roomy = (tt, (room, (room, (room, tt))));
       has-ihw = refl;
       has-internal = refl;
-      has-cdw = refl;
+      has-cdw = tt;
       differ = λ e. eqb-false 0 1 refl (ap counted e);
     }
-
--- Calls can meet all three.
-pub met : HasMet (took (run begun (marker 1 0)) (header ∷ ihw 1 ∷ internal-tdh 0 ∷ cdw 0 ∷ []))
-unfolding begun some run took tookIn packetCall wordCall takenOf recordsOf given wordOf number bits
-met = record { ihw = refl; internal-tdh = refl; first-cdw = refl }

@@ -10,9 +10,9 @@ use Rattle.words.specs.declared.Word.{Word}
 use Rattle.words.specs.Word.{bits}
 use Rattle.words.specs.Tdh.{noData}
 use Rattle.words.specs.Lanes.{worstBelow}
-use Rattle.payload_fsm.specs.Settle.{DataClear, TdtDone, stateAfter}
+use Rattle.payload_fsm.specs.Settle.{DataClear, TdtDone, three-data, stateAfter}
 use Rattle.payload_fsm.specs.declared.State.the-variants as S
-use Rattle.payload_fsm.proofs.Settle.{settled, two-are-few}
+use Rattle.payload_fsm.proofs.Settle.{marker-settles, two-are-few}
 use Rattle.records.specs.Records.{Each}
 use Rattle.tdh_validator.specs.Tdh.{illegal}
 use Rattle.forgetting.specs.Edges.{Holds, found, no-period, outer-lane, status, from-three, isThree, table}
@@ -24,7 +24,7 @@ two (a ∷ []) d e h t clear = absurd (omega arith)
 two (a ∷ b ∷ c ∷ ws) d e h t clear = absurd (omega arith)
 
 three : Holds (from-three 3 true)
-three (a ∷ b ∷ c ∷ []) d e (ha, (hb, (hc, _))) t clear = ap isThree (settled a b c ha hb hc S.Three d t)
+three (a ∷ b ∷ c ∷ []) d e (ha, (hb, (hc, _))) t clear = ap isThree (marker-settles (a ∷ b ∷ c ∷ d ∷ []) (three-data ha hb hc t) S.Three)
 three [] d e h t clear = absurd (omega arith)
 three (a ∷ []) d e h t clear = absurd (omega arith)
 three (a ∷ b ∷ []) d e h t clear = absurd (omega arith)

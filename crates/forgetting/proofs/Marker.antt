@@ -1,4 +1,4 @@
--- After the marker: the three-way state, and no open frame.
+-- After a marker: the three-way state, and no open frame.
 -- Assumes nothing.
 use mathlib.Core.Path.{_≡_, refl, sym, ap, subst, _∙_}
 use mathlib.Core.Bool.{Bool, true, false}
@@ -9,8 +9,8 @@ use Rattle.payload_fsm.specs.declared.State.the-variants as S
 use Rattle.payload_fsm.specs.declared.ItsPayloadWord.the-variants as K
 use Rattle.payload_fsm.specs.declared.Advanced.{Advanced}
 use Rattle.payload_fsm.specs.Step.{taken}
-use Rattle.payload_fsm.specs.Settle.{DataClear, TdtDone, stateAfter}
-use Rattle.payload_fsm.proofs.Settle.{AmongData, among, closes}
+use Rattle.payload_fsm.specs.Settle.{TdtDone, stateAfter}
+use Rattle.payload_fsm.proofs.Settle.{AmongData, Closes, marker-closes, closes, after-append}
 use Rattle.stored.specs.Stored.{noFrame, nextFrame}
 use Rattle.stored.proofs.Replace.{frame-closed}
 use Rattle.cdp_running.specs.declared.Tracker.{Tracker}
@@ -62,15 +62,11 @@ closing (x ∷ ws) d (takes {t = t} {ws = zs} w have low rest) e g s done =
     let others : zs ≡ ws ++ (d ∷ []) = cc in
     closing ws d rest others (good-next t w g have low) (rw (sym same) s) done
 
-after-append : (s : State) (xs ys : List Word) → stateAfter s (xs ++ ys) ≡ stateAfter (stateAfter s xs) ys
-unfolding stateAfter
-after-append s [] ys = refl
-after-append s (x ∷ xs) ys = after-append _ xs ys
-
 pub marked : (t : Tracker) (calls : List Call) → Good t → AcceptedMarker t calls → Settled (run t calls)
 marked t calls g m =
-    let three = m .one ∷ m .two ∷ m .three ∷ [] in
-    closing (m .earlier ++ three) (m .last) (run-walk t calls (m .no-reset)) (m .words ∙ sym (append-assoc (m .earlier) three (m .last ∷ []))) g
-    (rw (after-append (t .fsm .state) (m .earlier) three)
-    (among (m .one) (m .two) (m .three) (m .first-data) (m .second-data) (m .third-data) (stateAfter (t .fsm .state) (m .earlier))))
-    (m .tdt-done)
+    let c = marker-closes (m .is-marker) in
+    let front = m .earlier ++ c .front in
+    let words = m .words ∙ ap (λ (ws : List Word). m .earlier ++ ws) (c .is) ∙ sym (append-assoc (m .earlier) (c .front) (c .last ∷ [])) in
+    closing front (c .last) (run-walk t calls (m .no-reset)) words g
+    (rw (after-append (t .fsm .state) (m .earlier) (c .front)) (c .among (stateAfter (t .fsm .state) (m .earlier))))
+    (c .done)

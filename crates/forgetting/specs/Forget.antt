@@ -10,7 +10,7 @@ use Rattle.words.specs.declared.Word.{Word}
 use Rattle.words.specs.Word.{wordBytes}
 use Rattle.words.specs.Tdh.{internalTrigger}
 use Rattle.payload_fsm.specs.Kinds.{isIhw, isTdh, isData}
-use Rattle.payload_fsm.specs.Settle.{DataClear, TdtDone}
+use Rattle.payload_fsm.specs.Settle.{Marker}
 use Rattle.records.specs.Records.{mostRecords, room, Each}
 use Rattle.validators.specs.DataWords.{firstCdw}
 use Rattle.cdp_running.specs.declared.Tracker.{Tracker}
@@ -24,19 +24,14 @@ NoReset (word bytes buffer) = Unit
 NoReset (payload bytes buffer) = Unit
 NoReset reset = ⊥
 
--- A tracker accepts the marker: the last four words that its calls took are three data words with bit 13 clear and a TDT with packet done, and there is no
--- reset between. Packets, and calls that are refused, may stand between the four. Each tracker has words and packets of its own.
+-- A tracker accepts a marker: the last words that its calls took are three data words with bit 13 clear and a TDT with packet done or, by 02's ticket
+-- 12, a TDH and one data word with bit 13 clear and such a TDT; and there is no reset between. Packets, and calls that are refused, may stand between
+-- these words. Each tracker has words and packets of its own, and either of the two markers.
 pub record AcceptedMarker (t : Tracker) (calls : List Call) : Type 0 where
   pub earlier : List Word
-  pub one : Word
-  pub two : Word
-  pub three : Word
-  pub last : Word
-  pub words : wordsIn (took t calls) ≡ earlier ++ (one ∷ two ∷ three ∷ last ∷ [])
-  pub first-data : DataClear one
-  pub second-data : DataClear two
-  pub third-data : DataClear three
-  pub tdt-done : TdtDone last
+  pub marker : List Word
+  pub words : wordsIn (took t calls) ≡ earlier ++ marker
+  pub is-marker : Marker marker
   pub no-reset : Each NoReset calls
 
 -- Each record buffer has room for six records for each whole word that it is lent to. A word that is not ten bytes needs none.
