@@ -1,5 +1,6 @@
 /* boundary.c: the C boundary by example: 01's whole case through word and payload calls, every number and length that comes in about the edge of
- * its range, khz_check_file about its edges, the writers of words beside a model that sets bit after bit, and the worst lane beside all 28.
+ * its range, khz_check_file about its edges, the writers of words beside a model that sets bit after bit, the worst lane beside all 28, and two
+ * trackers that are back in step.
  *
  *     cc -std=c11 -I include tests/boundary.c target/staticlib/libkhandzorul.a -o /tmp/boundary && /tmp/boundary
  *
@@ -528,6 +529,75 @@ static void lane_status(void)
     expect(khz_worst_lane(word, KHZ_WORD_BYTES).status == KHZ_ERROR, "0x06 is not error");
 }
 
+/* A word of five bytes that count, with room for its records. */
+static khz_word_answer say(uint64_t *t, uint8_t b0, uint8_t b1, uint8_t b2, uint8_t b8, uint8_t id)
+{
+    uint64_t records[KHZ_RECORDS_PER_WORD * KHZ_RECORD_NUMBERS];
+    uint8_t w[KHZ_WORD_BYTES] = {b0, b1, b2, 0, 0, 0, 0, 0, b8, id};
+
+    return khz_word(t, KHZ_TRACKER_WORDS, w, sizeof w, records, sizeof records / sizeof *records);
+}
+
+/* A past: a packet, the first words of a run, and words that are a marker, or less than one. After none to all of its words the run has led to IHW_, TDH_,
+ * DATA_, DATA_, c_IHW_, c_TDH_, c_DATA_ and THREE: to every state. The packet's numbers, byte 0 of every word and the crossing of a TDH are the tracker's own. */
+enum { RUN = 7, THREE_DATA = 0, SHORT_FRAME, MARKERS, TWO_DATA = MARKERS, TDH_WITHOUT_DATA, TDT_NOT_DONE };
+static void past_of(uint64_t *t, int words, int ends_in, uint8_t own)
+{
+    static const uint8_t run[RUN][2] = {{0xE0}, {0xE8}, {0x20}, {0xF0}, {0xE0}, {0xE8}, {0xF0, 1}}; /* id, byte 8: packet done */
+    static const struct {
+        int words;
+        uint8_t word[4][3]; /* id, byte 8, byte 1: bit 13 */
+    } ends[] = {
+        [THREE_DATA] = {4, {{0x20}, {0x20}, {0x20}, {0xF0, 1}}},
+        [SHORT_FRAME] = {3, {{0xE8}, {0x20}, {0xF0, 1}}},
+        [TWO_DATA] = {3, {{0x20}, {0x20}, {0xF0, 1}}},
+        [TDH_WITHOUT_DATA] = {3, {{0xE8, 0, 0x20}, {0x20}, {0xF0, 1}}},
+        [TDT_NOT_DONE] = {3, {{0xE8}, {0x20}, {0xF0}}},
+    };
+
+    expect(khz_start(t, KHZ_TRACKER_WORDS, 1, 1, 1, 198) == KHZ_DONE, "khz_start is refused");
+    expect(khz_packet(t, KHZ_TRACKER_WORDS, own, own, own, own, 0, 0, 2) == KHZ_DONE, "a packet is refused");
+    for (int i = 0; i < words; i++)
+        expect(say(t, own, 0x10, own, run[i][1], run[i][0]).refusal == KHZ_DONE, "a word of a past is refused");
+    for (int i = 0; i < ends[ends_in].words; i++) {
+        const uint8_t *w = ends[ends_in].word[i];
+        expect(say(t, own, w[2], own, w[1], w[0]).refusal == KHZ_DONE, "the last word of a past is refused");
+    }
+}
+
+/* Whether two trackers with pasts of their own agree from an accepted packet on: in the kinds at once, and in all their numbers once an IHW, an internal
+ * TDH and a CDW were met. */
+static bool in_step(int words1, int ends1, int words2, int ends2)
+{
+    static const uint8_t calls[3][2] = {{0xE0}, {0xE8, 0x10}, {0xF8}}; /* id, byte 1: internal trigger */
+    uint64_t t[KHZ_TRACKER_WORDS], u[KHZ_TRACKER_WORDS];
+    bool agree = true;
+
+    past_of(t, words1, ends1, 1);
+    past_of(u, words2, ends2, 2);
+    expect(khz_packet(t, KHZ_TRACKER_WORDS, 64, 0, 0, 0, 0, 0, 2) == KHZ_DONE, "a packet is refused");
+    expect(khz_packet(u, KHZ_TRACKER_WORDS, 64, 0, 0, 0, 0, 0, 2) == KHZ_DONE, "a packet is refused");
+    expect(memcmp(t, u, sizeof t) != 0, "two pasts leave the same tracker");
+    for (int i = 0; i < 3; i++) {
+        khz_word_answer a = say(t, 0, calls[i][1], 0, 0, calls[i][0]), b = say(u, 0, calls[i][1], 0, 0, calls[i][0]);
+        agree = agree && a.refusal == b.refusal && a.kind == b.kind && a.guessed == b.guessed;
+    }
+    return agree && memcmp(t, u, sizeof t) == 0;
+}
+
+/* Promise 3: after a marker each, from any two states. What is less than a marker leaves some state out of step. */
+static void back_in_step(void)
+{
+    for (int words1 = 0; words1 <= RUN; words1++)
+        for (int words2 = 0; words2 <= RUN; words2++)
+            for (int ends1 = 0; ends1 < MARKERS; ends1++)
+                for (int ends2 = 0; ends2 < MARKERS; ends2++)
+                    expect(in_step(words1, ends1, words2, ends2), "two trackers are out of step after a marker each");
+    expect(!in_step(RUN, TWO_DATA, 0, SHORT_FRAME), "from THREE two data words and a TDT are as good as a marker");
+    expect(!in_step(RUN, TDH_WITHOUT_DATA, 0, SHORT_FRAME), "from THREE a short frame whose TDH has bit 13 set is as good as a marker");
+    expect(!in_step(0, TDT_NOT_DONE, 0, SHORT_FRAME), "a short frame without packet done is as good as a marker");
+}
+
 int main(void)
 {
     case_by_words();
@@ -543,6 +613,7 @@ int main(void)
     written_data();
     lane_status();
     worst_lane();
+    back_in_step();
     printf("boundary: %u checks, %u failed\n", checks, failed);
     return failed ? 1 : 0;
 }

@@ -28,6 +28,12 @@ use Rattle.payload_fsm.proofs.Rows.{choice}
 abbrev stateOf : Advanced → State
 stateOf a = a .fsm .state
 
+-- Among data a word that is no TDT is a CDW, a data word or a guessed one: the state stays.
+stays : (w : Word) → eqb (idOf w) tdtId ≡ false → (state : State) → stateOf (inData state w) ≡ state
+stays w no-tdt state =
+    let Stays : Advanced → Type 0 = λ a. stateOf a ≡ state in
+    rw no-tdt (choice Stays (eqb (idOf w) cdwId) refl (choice Stays (isDataId (idOf w)) refl refl))
+
 -- Where a word with bit 13 clear leads that is no TDT. Only the three-way state asks which word it is; `three` is where that one leads.
 abbrev onward : State → State → State
 onward three S.Ihw = S.Tdh
@@ -39,17 +45,11 @@ onward three S.CIhw = S.CTdh
 onward three S.CTdh = S.CData
 
 module _ (w : Word) (row : Advanced) (clear : noData w ≡ 0) (no-tdt : eqb (idOf w) tdtId ≡ false) (in-three : inThree w ≡ row) where
-  -- Among data such a word is a CDW, a data word or a guessed one: the state stays.
-  stays : (state : State) → stateOf (inData state w) ≡ state
-  stays state =
-      let Stays : Advanced → Type 0 = λ a. stateOf a ≡ state in
-      rw no-tdt (choice Stays (eqb (idOf w) cdwId) refl (choice Stays (isDataId (idOf w)) refl refl))
-
   goes : (state : State) → nextState state w ≡ onward (stateOf row) state
   goes S.Ihw = refl
   goes S.Tdh = simp (eq-eqb _ _ clear)
-  goes S.Data = stays S.Data
-  goes S.CData = stays S.CData
+  goes S.Data = stays w no-tdt S.Data
+  goes S.CData = stays w no-tdt S.CData
   goes S.Three = ap stateOf in-three
   goes S.CIhw = refl
   goes S.CTdh = refl
@@ -104,7 +104,9 @@ marker-closes (three-data {a = a} {b = b} {c = c} {d = d} da db dc t) =
       last = d;
       is = refl;
       among =
-          λ state. rw (data-goes a da state, data-goes b db (onward S.Ihw state), data-goes c dc (onward S.Ihw (onward S.Ihw state))) (three-data-among state);
+          λ state.
+          rw (data-goes a da state, data-goes b db (onward S.Ihw state), data-goes c dc (onward S.Ihw (onward S.Ihw state)))
+          (three-data-among state);
       done = t;
     }
 marker-closes (short-frame {h = h} {a = a} {d = d} th da t) =
@@ -125,13 +127,34 @@ unfolding stateAfter
 after-append state [] ys = refl
 after-append state (x ∷ xs) ys = after-append _ xs ys
 
--- "bring every state to the three-way state": either marker.
-pub marker-settles : (words : List Word) → Marker words → (state : State) → stateAfter state words ≡ S.Three
+close-settles : {words : List Word} → Closes words → (state : State) → stateAfter state words ≡ S.Three
 unfolding stateAfter
-marker-settles words m state =
-    let c = marker-closes m in
+close-settles c state =
     let front = stateAfter state (c .front) in
     ap (stateAfter state) (c .is) ∙ after-append state (c .front) (c .last ∷ []) ∙ ap stateOf (closes front (c .last) (c .among state) (c .done))
+
+-- "bring every state to the three-way state": either marker.
+pub marker-settles : (words : List Word) → Marker words → (state : State) → stateAfter state words ≡ S.Three
+marker-settles words m = close-settles (marker-closes m)
+
+-- Any longer frame does so too: among data, words that are no TDT leave the state.
+abbrev pub NoTdt : List Word → Type 0
+NoTdt [] = Unit
+NoTdt (w ∷ ws) = (eqb (idOf w) tdtId ≡ false) × NoTdt ws
+
+among-stays : (ws : List Word) → NoTdt ws → (state : State) → AmongData state → AmongData (stateAfter state ws)
+unfolding stateAfter
+among-stays [] none state among = among
+among-stays (w ∷ ws) (no-tdt, rest) state (inl e) = among-stays ws rest (nextState state w) (inl (rw e (stays w no-tdt S.Data)))
+among-stays (w ∷ ws) (no-tdt, rest) state (inr e) = among-stays ws rest (nextState state w) (inr (rw e (stays w no-tdt S.CData)))
+
+pub longer-frame-settles : (h a : Word) (more : List Word) (d : Word) → TdhClear h → DataClear a → NoTdt more → TdtDone d
+    → (state : State) → stateAfter state (h ∷ a ∷ (more ++ (d ∷ []))) ≡ S.Three
+unfolding stateAfter marker-closes
+longer-frame-settles h a more d th da no-tdt t =
+    let short = marker-closes (short-frame th da t) in
+    let among : (state : State) → AmongData (stateAfter state (h ∷ a ∷ more)) = λ state. among-stays more no-tdt _ (short .among state) in
+    close-settles (record { front = h ∷ a ∷ more; last = d; is = refl; among = among; done = t })
 
 -- "no two words bring all seven states to any common one": c_IHW_ leads over c_TDH_ to c_DATA_, whatever the two words are, and IHW_ over TDH_ to
 -- DATA_ or THREE.
