@@ -291,11 +291,13 @@ needs-packet =
       differ = λ e. eqb-false 1 0 refl (ap counted e);
     }
 
--- A TDH at crossing 198 with no room for 45: where that of the past was at 1 it is refused, and the states part.
+-- A TDH that gives five records, and 45 as a sixth where the internal TDH of the past was at crossing 1, and not at 0. With room for five it is refused
+-- there, and the CDW after it is taken as the TDH.
 abbrev pub cramped : List Call
-cramped = header ∷ sayIn 0 (ten 0 0x10 198 0 0xE8) ∷ cdw 0 ∷ tdt-done ∷ ihw 1 ∷ []
+cramped =
+    packet (record { position = 0; orbit = 1; trigger = 0; bc = 0; page = 0; stop = 0; format = 2 }) ∷ ihw 1 ∷ sayIn 5 (ten 1 0xD0 198 0 0xE8) ∷ cdw 0 ∷ []
 
-pub needs-room : Needed has-room begun begun (short 1 0) (three 1 1) cramped (tdh 0 ∷ [])
+pub needs-room : Needed has-room begun begun (short 1 0) (three 1 1) cramped (cdw 0 ∷ [])
 unfolding begun counted some run answers took tookIn wordsIn packetCall wordCall takenOf recordsOf given flat wordOf number bits
 needs-room =
     record {
@@ -308,7 +310,7 @@ needs-room =
       has-ihw = refl;
       has-internal = refl;
       has-cdw = refl;
-      differ = λ e. eqb-false 0 2 refl (ap counted e);
+      differ = λ e. eqb-false 1 0 refl (ap counted e);
     }
 
 -- A data word of lane 0 gets 1072 where the IHW of the past has not switched it on.
