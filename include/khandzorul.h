@@ -26,6 +26,10 @@
  *   A refused khz_write_ihw or its like leaves the word's bytes as they were.
  *   In an answer with a refusal all other numbers are 0, save words and records of a khz_payload_answer.
  *   Look at every answer. A compiler that can warn of a call whose answer is not looked at does so.
+ *
+ * Lost words.  A tracker finds its step again by itself. Whatever it took before, a TDH with bit 13 clear, a data word with bit 13 clear
+ *   and a TDT with packet done, one after the other and no khz_reset between, bring it to where a TDH, DDW0 or IHW is next
+ *   (docs/RULES.md, "Back in step").
  */
 #ifndef KHANDZORUL_H
 #define KHANDZORUL_H

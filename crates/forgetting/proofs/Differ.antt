@@ -15,12 +15,10 @@ use Rattle.payload_fsm.specs.Kinds.{kindNumber}
 use Rattle.payload_fsm.specs.Settle.{DataClear, TdtDone, TdhClear, Marker, three-data, short-frame}
 use Rattle.records.specs.Records.{mostRecords, recordWidth, flat, given, Each}
 use Rattle.validators.specs.declared.Settings.{Settings}
-use Rattle.validators.specs.declared.Packet.{Packet}
 use Rattle.cdp_running.specs.declared.Tracker.{Tracker}
 use Rattle.cdp_running.specs.declared.Told.the-variants.{Taken, Refused}
 use Rattle.cdp_running.specs.Tracker.{Good, startOf, packetCall}
 use Rattle.cdp_running.specs.Word.{recordsOf, takenOf, wordCall}
-use Rattle.payload.specs.Payload.{wordsFrom, payloadCall, wordCalls, payloadCalls}
 use Rattle.forgetting.specs.Calls.{Call, packet, word, payload, reset, run, Answer, answers, Kind, kind, refusal, kindsIn, kinds, tookIn, took, wordsIn}
 use Rattle.forgetting.specs.Forget.{NoReset, AcceptedMarker, Roomy, Begins, asIhw, asInternalTdh, asFirstCdw, some, HasMet}
 use Rattle.forgetting.proofs.Forgetting.{forgetting}

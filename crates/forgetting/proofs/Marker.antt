@@ -1,17 +1,16 @@
 -- After a marker: the three-way state, and no open frame.
 -- Assumes nothing.
-use mathlib.Core.Path.{_≡_, refl, sym, ap, subst, _∙_}
+use mathlib.Core.Path.{_≡_, refl, sym, ap, _∙_}
 use mathlib.Core.Bool.{Bool, true, false}
 use mathlib.Core.List.{List, [], _∷_, _++_, append-assoc, nil≢cons, cons≢nil}
 use Rattle.words.specs.declared.Word.{Word}
-use Rattle.payload_fsm.specs.declared.State.{State}
 use Rattle.payload_fsm.specs.declared.State.the-variants as S
 use Rattle.payload_fsm.specs.declared.ItsPayloadWord.the-variants as K
 use Rattle.payload_fsm.specs.declared.Advanced.{Advanced}
 use Rattle.payload_fsm.specs.Step.{taken}
 use Rattle.payload_fsm.specs.Settle.{TdtDone, stateAfter}
-use Rattle.payload_fsm.proofs.Settle.{AmongData, Closes, marker-closes, closes, after-append}
-use Rattle.stored.specs.Stored.{noFrame, nextFrame}
+use Rattle.payload_fsm.proofs.Settle.{AmongData, marker-closes, closes, after-append}
+use Rattle.stored.specs.Stored.{noFrame}
 use Rattle.stored.proofs.Replace.{frame-closed}
 use Rattle.cdp_running.specs.declared.Tracker.{Tracker}
 use Rattle.cdp_running.specs.Tracker.{Good}
@@ -20,7 +19,7 @@ use Rattle.cdp_running.specs.Word.{takenAs, positionNow}
 use Rattle.cdp_running.proofs.Good.{good-accept, good-next}
 use Rattle.forgetting.specs.Calls.{Call, run}
 use Rattle.forgetting.specs.Forget.{AcceptedMarker}
-use Rattle.forgetting.proofs.Walk.{Walk, here, accepts, takes, walk-good, run-walk}
+use Rattle.forgetting.proofs.Walk.{Walk, here, accepts, takes, run-walk}
 
 pub record Settled (t : Tracker) : Type 0 where
   pub state : t .fsm .state ≡ S.Three
