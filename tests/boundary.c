@@ -529,7 +529,7 @@ static void lane_status(void)
     expect(khz_worst_lane(word, KHZ_WORD_BYTES).status == KHZ_ERROR, "0x06 is not error");
 }
 
-/* A word of five bytes that count, with room for its records. */
+/* A word of five bytes, the others 0, with room for its records. */
 static khz_word_answer say(uint64_t *t, uint8_t b0, uint8_t b1, uint8_t b2, uint8_t b8, uint8_t id)
 {
     uint64_t records[KHZ_RECORDS_PER_WORD * KHZ_RECORD_NUMBERS];
@@ -538,9 +538,11 @@ static khz_word_answer say(uint64_t *t, uint8_t b0, uint8_t b1, uint8_t b2, uint
     return khz_word(t, KHZ_TRACKER_WORDS, w, sizeof w, records, sizeof records / sizeof *records);
 }
 
-/* A past: a packet, the first words of a run, and words that are a marker, or less than one. After none to all of its words the run has led to IHW_, TDH_,
- * DATA_, DATA_, c_IHW_, c_TDH_, c_DATA_ and THREE: to every state. The packet's numbers, byte 0 of every word and the crossing of a TDH are the tracker's own. */
-enum { RUN = 7, THREE_DATA = 0, SHORT_FRAME, MARKERS, TWO_DATA = MARKERS, TDH_WITHOUT_DATA, TDT_NOT_DONE };
+/* A past: a packet, the first words of a run, and words that are a marker, or less than one. After none to all of its words the run has led to IHW_,
+ * TDH_, DATA_, DATA_, c_IHW_, c_TDH_, c_DATA_ and THREE: to every state. The packet's numbers, byte 0 of every word and the crossing of a TDH are the
+ * tracker's own. */
+enum { RUN = 7 };
+enum { THREE_DATA, SHORT_FRAME, MARKERS, TWO_DATA = MARKERS, TDH_WITHOUT_DATA, TDT_NOT_DONE };
 static void past_of(uint64_t *t, int words, int ends_in, uint8_t own)
 {
     static const uint8_t run[RUN][2] = {{0xE0}, {0xE8}, {0x20}, {0xF0}, {0xE0}, {0xE8}, {0xF0, 1}}; /* id, byte 8: packet done */
@@ -585,7 +587,7 @@ static bool in_step(int words1, int ends1, int words2, int ends2)
     return agree && memcmp(t, u, sizeof t) == 0;
 }
 
-/* Promise 3: after a marker each, from any two states. What is less than a marker leaves some state out of step. */
+/* Promise 3: after a marker each, from any two states; and what is less than a marker does not do it. */
 static void back_in_step(void)
 {
     for (int words1 = 0; words1 <= RUN; words1++)
