@@ -131,8 +131,10 @@ HOT bool take_ihw(uint64_t *t, word w, uint64_t kind, record_list *r, buffer *b,
     if (t[RUNNING] && kind == KHZ_IHW) {
         if (t[STOP] != 0)
             say(r, 1120, t[STOP], 0);
-        if (t[PAGE] != 0)
+        if (t[STATE] == IHW_ && t[PAGE] != 0)
             say(r, 1121, t[PAGE], 0);
+        if (t[STATE] == THREE && t[PAGE] == 0)
+            say(r, 1122, t[PAGE], 0);
     }
     if (!put(r, b))
         return false;

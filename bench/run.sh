@@ -87,7 +87,7 @@ if [ -n "$stack" ]; then
 fi
 if [ -n "$before" ]; then
     said 'before   ' "$before"
-    for f in start packet word payload reset check_file; do echo "khz_$f before_$f"; done >"$work/renamed"
+    nm -g --defined-only "$before" | sed -n 's/.* T khz_\(.*\)/khz_\1 before_\1/p' >"$work/renamed"
     objcopy --redefine-syms="$work/renamed" "$before" "$work/before.a"
     set -- "$@" -DBEFORE "$work/before.a"
     columns="$columns before_payload before_word"
@@ -105,16 +105,16 @@ collected() {
     valgrind --tool=callgrind --callgrind-out-file=/dev/null "$@" >"$work/out" 2>"$work/log" || { cat "$work/log" >&2; exit 1; }
     sed -n 's/.*Collected : *//p' "$work/log"
 }
-streams='0 1 2 3 4 5'
+streams='0 1 2 3 4 5 6'
 for k in $streams; do "$work/bench" print "$k" "$words" >"$work/$k"; done
-n=$(grep -c '^W' "$work/0")
-echo "figures   instructions a word by callgrind, $n words"
+echo "figures   instructions a word by callgrind, $(grep -c '^W' "$work/0") words; of the pages $(grep -c '^W' "$work/6")"
 echo
-printf '%-15s %9s %9s %9s %9s %9s %9s\n' '' inner outer 1% 10% all alone
+printf '%-15s %9s %9s %9s %9s %9s %9s %9s\n' '' inner outer 1% 10% all alone pages
 [ "$driver" = - ] || columns="$columns Rust"
 for c in $columns; do
     printf '%-15s' "$c"
     for k in $streams; do
+        n=$(grep -c '^W' "$work/$k")
         if [ "$c" = Rust ]; then
             one=$(collected "$driver" time "$work/$k" 1)
             three=$(collected "$driver" time "$work/$k" 3)

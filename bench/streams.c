@@ -2,7 +2,7 @@
  *
  * One orbit after the other: an IHW, 18 internal triggers at crossings 0, 198, .. 3366 with 12 data words each, the tenth cut over two
  * pages, then a page with a DDW0. So 12 of 14 words are data, and a packet has some 86 words. Other streams are this one with outer
- * lanes, with damage, or with each word in a packet of its own.
+ * lanes, with damage, with each word in a packet of its own, or with each trigger on a page of its own.
  */
 #include "streams.h"
 
@@ -14,15 +14,16 @@ enum { WORD = 10, TRIGGERS = 18, PERIOD = 198, DATA = 12, PAGE_BYTES = 8192 };
 
 static const struct {
     const char *name, *says;
-    bool outer, alone;
+    bool outer, alone, paged;
     unsigned damaged_per_1000;
 } kinds[STREAMS] = {
-    {"inner", "clean, inner lanes", false, false, 0},
-    {"outer", "clean, outer lanes", true, false, 0},
-    {"1%", "inner lanes, 1% of the words damaged", false, false, 10},
-    {"10%", "inner lanes, 10% damaged", false, false, 100},
-    {"all", "inner lanes, every word damaged", false, false, 1000},
-    {"alone", "clean, inner lanes, each word in a packet of its own", false, true, 0},
+    {"inner", "clean, inner lanes", false, false, false, 0},
+    {"outer", "clean, outer lanes", true, false, false, 0},
+    {"1%", "inner lanes, 1% of the words damaged", false, false, false, 10},
+    {"10%", "inner lanes, 10% damaged", false, false, false, 100},
+    {"all", "inner lanes, every word damaged", false, false, false, 1000},
+    {"alone", "clean, inner lanes, each word in a packet of its own", false, true, false, 0},
+    {"pages", "clean, inner lanes, each trigger on a page of its own", false, false, true, 0},
 };
 
 static void *grow(void *p, size_t n)
@@ -75,20 +76,27 @@ static uint8_t data_id(size_t d, bool outer)
     return (uint8_t)(outer ? 0x40 + lane + lane / 7 : 0x20 + d % 9);
 }
 
-static void add_orbit(stream *s, uint32_t orbit, bool outer)
+/* `paged`: each trigger on a page of its own. */
+static void add_orbit(stream *s, uint32_t orbit, bool outer, bool paged)
 {
     static const uint8_t ihws[2][WORD] = {{0xFF, 0x01, 0, 0, 0, 0, 0, 0, 0, 0xE0}, {0xFF, 0xFF, 0xFF, 0x0F, 0, 0, 0, 0, 0, 0xE0}};
     static const uint8_t ddw0[WORD] = {0, 0, 0, 0, 0, 0, 0, 0, 0, 0xE4};
     size_t first = s->words;
+    uint64_t page = 0;
 
     add(s, ihws[outer]);
     for (unsigned k = 0; k < TRIGGERS; k++) {
+        if (paged && k > 0) {
+            close_packet(s, first, orbit, page++, 0);
+            first = s->words;
+            add(s, ihws[outer]);
+        }
         add_tdh(s, k * PERIOD, orbit, false);
         for (unsigned d = 0; d < DATA; d++) {
             uint8_t w[WORD] = {(uint8_t)k, 1, 2, 3, 4, 5, 6, 7, 8, data_id(k * DATA + d, outer)};
             if (k == 9 && d == 6) {
                 add_tdt(s, 0);
-                close_packet(s, first, orbit, 0, 0);
+                close_packet(s, first, orbit, page++, 0);
                 first = s->words;
                 add(s, ihws[outer]);
                 add_tdh(s, k * PERIOD, orbit, true);
@@ -97,10 +105,10 @@ static void add_orbit(stream *s, uint32_t orbit, bool outer)
         }
         add_tdt(s, 1);
     }
-    close_packet(s, first, orbit, 1, 0);
+    close_packet(s, first, orbit, page++, 0);
     first = s->words;
     add(s, ddw0);
-    close_packet(s, first, orbit, 2, 1);
+    close_packet(s, first, orbit, page, 1);
 }
 
 /* Damage that gives at least one record and keeps the machine in step. */
@@ -141,7 +149,7 @@ stream make_stream(int k, size_t words)
 {
     stream s = {kinds[k].name, kinds[k].says, NULL, NULL, 0, 0};
     for (uint32_t orbit = 7; s.words < words; orbit++)
-        add_orbit(&s, orbit, kinds[k].outer);
+        add_orbit(&s, orbit, kinds[k].outer, kinds[k].paged);
     damage(&s, kinds[k].damaged_per_1000);
     if (kinds[k].alone)
         put_apart(&s);

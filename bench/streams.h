@@ -18,7 +18,7 @@ typedef struct {
     size_t words, count;             /* words and packets */
 } stream;
 
-enum { STREAMS = 6 };
+enum { STREAMS = 7 };
 
 /* Stream k, from 0, of at least so many words; it ends with an orbit. Ends the program where there is no memory. */
 stream make_stream(int k, size_t words);

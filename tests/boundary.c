@@ -1,6 +1,6 @@
 /* boundary.c: the C boundary by example: 01's whole case through word and payload calls, every number and length that comes in about the edge of
- * its range, khz_check_file about its edges, the writers of words beside a model that sets bit after bit, the worst lane beside all 28, and two
- * trackers that are back in step.
+ * its range, khz_check_file about its edges, the writers of words beside a model that sets bit after bit, the worst lane beside all 28, two
+ * trackers that are back in step, and the page at an IHW.
  *
  *     cc -std=c11 -I include tests/boundary.c target/staticlib/libkhandzorul.a -o /tmp/boundary && /tmp/boundary
  *
@@ -600,6 +600,93 @@ static void back_in_step(void)
     expect(!in_step(0, TDT_NOT_DONE, 0, SHORT_FRAME), "a short frame without packet done is as good as a marker");
 }
 
+/* Ways to an IHW: the words before it and a reset, and what it then comes in: the start state, the three-way state, or a continuation. */
+enum { START, THREE_WAY, CONTINUED };
+static const struct {
+    int words;
+    uint8_t word[3][3]; /* id, byte 8: packet done, byte 1: bit 13 */
+    bool reset;
+    int comes_in;
+} ways[] = {
+    {0, {{0}}, false, START},
+    {3, {{0xE0}, {0xE8, 0, 0x20}, {0xE4}}, false, START},
+    {3, {{0xE0}, {0xE8, 0, 0x20}, {0x20}}, false, START}, /* an id that is unknown there, 992 */
+    {2, {{0xE0}, {0xE8, 0, 0x20}}, true, START},
+    {3, {{0xE0}, {0xE8}, {0xF0}}, true, START},
+    {2, {{0xE0}, {0xE8, 0, 0x20}}, false, THREE_WAY},
+    {3, {{0xE0}, {0xE8}, {0xF0, 1}}, false, THREE_WAY},
+    {3, {{0xE0}, {0xE8}, {0xF0}}, false, CONTINUED},
+};
+
+/* The records of an IHW behind such words, in a packet of its own at position 0: 1120, then 1121 in the start state or 1122 in the three-way state. */
+static void ihw_at_page(size_t way, uint64_t page, uint64_t stop, bool running)
+{
+    uint64_t t[KHZ_TRACKER_WORDS], records[KHZ_RECORDS_PER_WORD * KHZ_RECORD_NUMBERS], said[3 * KHZ_RECORD_NUMBERS];
+    static const uint8_t ihw[KHZ_WORD_BYTES] = {[9] = 0xE0};
+    int comes_in = ways[way].comes_in;
+    bool asked = running && comes_in != CONTINUED;
+    khz_word_answer a;
+    size_t n = 0;
+
+    expect(khz_start(t, KHZ_TRACKER_WORDS, running, 1, 0, 0) == KHZ_DONE, "khz_start is refused");
+    expect(khz_packet(t, KHZ_TRACKER_WORDS, 1000, 0, 0, 0, 0, 0, 2) == KHZ_DONE, "a packet is refused");
+    for (int i = 0; i < ways[way].words; i++) {
+        const uint8_t *w = ways[way].word[i];
+        expect(say(t, 1, w[2], 0, w[1], w[0]).refusal == KHZ_DONE, "a word before an IHW is refused");
+    }
+    if (ways[way].reset)
+        expect(khz_reset(t, KHZ_TRACKER_WORDS) == KHZ_DONE, "khz_reset is refused");
+    expect(khz_packet(t, KHZ_TRACKER_WORDS, 0, 0, 0, 0, page, stop, 2) == KHZ_DONE, "a packet is refused");
+    const uint64_t rows[3][2] = {{KHZ_CODE_IHW_STOP, stop}, {KHZ_CODE_IHW_PAGE, page}, {KHZ_CODE_IHW_LATER_PAGE, 0}};
+    const bool given[3] = {asked && stop != 0, asked && comes_in == START && page != 0, asked && comes_in == THREE_WAY && page == 0};
+    for (int i = 0; i < 3; i++)
+        if (given[i]) {
+            const uint64_t record[KHZ_RECORD_NUMBERS] = {64, rows[i][0], rows[i][1], 0};
+            memcpy(said + n++ * KHZ_RECORD_NUMBERS, record, sizeof record);
+        }
+    a = khz_word(t, KHZ_TRACKER_WORDS, ihw, sizeof ihw, records, sizeof records / sizeof *records);
+    expect(a.kind == (comes_in == CONTINUED ? KHZ_IHW_CONTINUATION : KHZ_IHW) && a.records == n && memcmp(records, said, n * sizeof *said * KHZ_RECORD_NUMBERS) == 0,
+           "an IHW gives other records than its state, page and stop say");
+}
+
+/* Two orbits, each of 65,535 pages with a trigger on each and a page with a DDW0, so that every page number comes up: no record at all. */
+static void long_run(void)
+{
+    static const uint8_t ddw0[KHZ_WORD_BYTES] = {[9] = 0xE4};
+    uint8_t words[4][KHZ_WORD_BYTES] = {{1, [9] = 0xE0}, {0x10, 0x10, [9] = 0xE8}, {[9] = 0x20}, {[8] = 1, 0xF0}}; /* IHW, internal TDH, data, TDT */
+    uint64_t t[KHZ_TRACKER_WORDS], records[4 * KHZ_RECORDS_PER_WORD * KHZ_RECORD_NUMBERS], triggers = 0, position = 0, given = 0, taken = 0;
+    uint64_t refused = khz_start(t, KHZ_TRACKER_WORDS, 1, 1, 1, 198);
+
+    for (uint64_t orbit = 0; orbit < 2; orbit++)
+        for (uint64_t page = 0; page < 65536; page++, position += 128) {
+            bool last = page == 65535;
+            uint64_t bc = triggers % 18 * 198;
+            khz_payload_answer a;
+            triggers += !last;
+            put(words[1] + 2, bc, 2);
+            put(words[1] + 4, orbit, 4);
+            refused |= khz_packet(t, KHZ_TRACKER_WORDS, position, orbit, 0x10, bc, page, last, 2);
+            a = khz_payload(t, KHZ_TRACKER_WORDS, last ? ddw0 : words[0], last ? sizeof ddw0 : sizeof words, records, sizeof records / sizeof *records);
+            refused |= a.refusal;
+            given += a.records;
+            taken += a.words;
+        }
+    expect(refused == 0 && taken == 2 * (4 * 65535 + 1), "a call of a long run is refused");
+    expect(given == 0, "a long clean run gives a record");
+}
+
+static void pages(void)
+{
+    static const uint64_t page[] = {0, 1, 2, 65535}, stop[] = {0, 1, 2, 255};
+
+    for (size_t way = 0; way < sizeof ways / sizeof *ways; way++)
+        for (size_t p = 0; p < sizeof page / sizeof *page; p++)
+            for (size_t s = 0; s < sizeof stop / sizeof *stop; s++)
+                for (int running = 0; running < 2; running++)
+                    ihw_at_page(way, page[p], stop[s], running);
+    long_run();
+}
+
 int main(void)
 {
     case_by_words();
@@ -616,6 +703,7 @@ int main(void)
     lane_status();
     worst_lane();
     back_in_step();
+    pages();
     printf("boundary: %u checks, %u failed\n", checks, failed);
     return failed ? 1 : 0;
 }

@@ -33,6 +33,10 @@ def tdt(done=1):
     return word(0xF0, done << 64)
 
 
+def ddw0():
+    return word(0xE4, 0)
+
+
 def cdw(user=5, index=0):
     return word(0xF8, user | index << 48)
 
@@ -83,7 +87,7 @@ def after_packet_done(*bcs, internal=0):
     return [tdh(bc, internal=internal, no_data=1) for bc in bcs]
 
 
-FIVE_CLEAN = [packet(clean(n), position=100000 * i) for i, n in enumerate([998, 998, 997, 997, 997])]
+FIVE_CLEAN = [packet(clean(n), position=100000 * i, page=i) for i, n in enumerate([998, 998, 997, 997, 997])]
 
 CASES = []
 
@@ -106,10 +110,10 @@ printed("a file of 16 bytes with no packets prints two lines", file())
 # 6, in each of its forms.
 refused("6: under 16 bytes: none", b"", 6)
 refused("6: under 16 bytes: 15", file()[:15], 6)
-refused("6: over 60,000 bytes, 60,010, all else as it should be", file(*FIVE_CLEAN, packet(clean(998), position=500000)), 6)
-refused("6: over 60,000 bytes: 60,001", file(*FIVE_CLEAN, packet(clean(997), position=500000)) + b"\0", 6)
+refused("6: over 60,000 bytes, 60,010, all else as it should be", file(*FIVE_CLEAN, packet(clean(998), position=500000, page=5)), 6)
+refused("6: over 60,000 bytes: 60,001", file(*FIVE_CLEAN, packet(clean(997), position=500000, page=5)) + b"\0", 6)
 printed("60,000 bytes are not over 60,000: all words are read, the last too, word 997 of the packet at 500000",
-        file(*FIVE_CLEAN, packet(loud_at_the_end(997), position=500000)), "510024 1072 1 1")
+        file(*FIVE_CLEAN, packet(loud_at_the_end(997), position=500000, page=5)), "510024 1072 1 1")
 refused("6: packet offset not 16", file(packet(FIVE), packet_offset=40), 6)
 refused("6: word offset not 16 + 24 times packets", file(packet(FIVE), word_offset=41), 6)
 refused("6: length one word less", whole()[:-10], 6)
@@ -149,18 +153,18 @@ refused("the last packet is looked at too", file(packet(FIVE), packet([]), packe
 printed("packets with no words", file(packet([]), packet([], fmt=0)))
 printed("each packet before its words: those of 0, 2, 0 and 1 words; 30, 2 reserved",
         file(packet([], position=1000, stop=9), packet([ihw(), tdh(100, no_data=1)], position=2000), packet([], position=3000, stop=9),
-             packet([ihw(reserved=1)], position=4000)),
+             packet([ihw(reserved=1)], position=4000, page=1)),
         "4064 30 2 0")
-printed("one word gives at most six: 40, 42, 444, 445, 44 and 45 of one TDH",
+printed("one word gives at most six: 40, 42, 444, 445, 44 and 45 of one TDH; its IHW in the three-way state stands on page 0",
         file(packet([ihw(), tdh(100, internal=1, no_data=1)]),
              packet([ihw(), tdh(300, kind=0x11, internal=1, continuation=1, orbit=9, reserved=1)], position=1000, orbit=8, bc=200)),
-        "1074 40 2 0", "1074 42 1 0", "1074 444 9 8", "1074 445 300 200", "1074 44 17 16", "1074 45 200 198")
+        "1064 1122 0 0", "1074 40 2 0", "1074 42 1 0", "1074 444 9 8", "1074 445 300 200", "1074 44 17 16", "1074 45 200 198")
 
 # "At the edges" and "Easy to get wrong".
 printed("equal BCs give no 440, a larger previous BC does", file(packet([ihw()] + after_packet_done(100, 100, 99, 99))), "94 440 100 99")
 printed("a second CDW in a packet gets 70, the first does not", file(packet([ihw(), tdh(100), cdw(), cdw(), data(), tdt()])), "94 70 248 0")
 printed("a second CDW in the next packet gets no 70; 81: user fields differ and index is not 0",
-        file(packet([ihw(), tdh(100), cdw(user=5), tdt()]), packet([ihw(), tdh(100), cdw(user=6, index=3), tdt()], position=1000)),
+        file(packet([ihw(), tdh(100), cdw(user=5), tdt()]), packet([ihw(), tdh(100), cdw(user=6, index=3), tdt()], position=1000, page=1)),
         "1084 81 3 0")
 printed("no frame is opened at 59: the next TDT finds none either",
         file(packet([ihw(), tdh(100, continuation=1), tdt(), tdh(100, continuation=1), tdt()])), "74 42 1 0", "84 59 0 0", "104 59 0 0")
@@ -177,6 +181,41 @@ printed("lane 78 is not lane 14: id 0x47 is no data id, its lane is never active
 printed("992 after a TDH with no data too: an unknown id is a DDW0; stop is not 1, page is 0",
         file(packet([ihw(), tdh(100, no_data=1), data(0x20)])), "84 992 32 0", "84 60 1 0", "84 1110 0 0", "84 1111 0 0")
 
+# The page at an IHW: 02, ticket 3. "1121 in the start state for a page not 0, and 1122 in the three-way state for a page of 0 (first 0). Stop stays 0 in
+# both." Both come after 1120. A continuation is not asked.
+TO_THREE = [ihw(), tdh(100, no_data=1)]
+printed("1121 in the start state for a page not 0", file(packet([ihw()], page=1)), "64 1121 1 0")
+printed("stop stays 0 in the start state: 1120 on page 0", file(packet([ihw()], stop=1)), "64 1120 1 0")
+printed("1121 comes after 1120, and its first is the page: the largest", file(packet([ihw()], page=65535, stop=255)), "64 1120 255 0", "64 1121 65535 0")
+printed("1122 in the three-way state for a page of 0, after a TDT with packet done and after a TDH with no data",
+        file(packet([ihw(), tdh(100), tdt()] + TO_THREE + [ihw()])), "94 1122 0 0", "114 1122 0 0")
+printed("stop stays 0 in the three-way state: 1120, before 1122 on page 0, and alone on a later page",
+        file(packet(TO_THREE), packet(TO_THREE, position=1000, stop=1), packet(TO_THREE, position=2000, page=1, stop=1)),
+        "1064 1120 1 0", "1064 1122 0 0", "2064 1120 1 0")
+printed("no record in the three-way state on a later page: 1, 65535, and 1 again",
+        file(packet(TO_THREE), packet(TO_THREE, position=1000, page=1), packet(TO_THREE, position=2000, page=65535), packet(TO_THREE, position=3000, page=1)))
+printed("after a DDW0 the start state again: page 0 gives none, page 2 gives 1121",
+        file(packet(TO_THREE), packet([ddw0()], position=1000, page=1, stop=1), packet(TO_THREE, position=2000),
+             packet([ddw0()], position=3000, page=1, stop=1), packet([ihw()], position=4000, page=2)), "4064 1121 2 0")
+printed("after an unknown id, which is a DDW0 too: 1121 on page 2",
+        file(packet(TO_THREE), packet([data(0x20)], position=1000, page=1, stop=1), packet([ihw()], position=2000, page=2)),
+        "1064 992 32 0", "1064 60 1 0", "2064 1121 2 0")
+printed("a continuation is asked for neither page nor stop",
+        file(packet([ihw(), tdh(100), tdt(0)]), packet([ihw(), tdh(100, continuation=1), tdt(0)], position=1000),
+             packet([ihw(), tdh(100, continuation=1), tdt()], position=2000, page=7, stop=1)))
+
+
+# Fifty orbits with a trigger each 198 crossings, each trigger on a page of its own, and a page with a DDW0 behind the eighteenth.
+def fifty_orbits():
+    for orbit in range(50):
+        for page in range(18):
+            at = {"position": 1000 * (19 * orbit + page), "orbit": orbit}
+            yield packet([ihw(), tdh(198 * page, internal=1, orbit=orbit), data(), tdt()], bc=198 * page, page=page, **at)
+        yield packet([ddw0()], position=1000 * (19 * orbit + 18), orbit=orbit, page=18, stop=1)
+
+
+printed("a long clean run of many pages gives no record at all", file(*fifty_orbits()))
+
 # The example of docs/CODES.md. From the first data word on each word has a byte of the next one as its id, and that byte is 0.
 PAGE = b"".join(clean(93))
 ONE_BYTE_LOST = PAGE[:20] + PAGE[21:] + b"\0"
@@ -186,7 +225,9 @@ printed("one byte lost in the first data word of a page of 93 words: 991 and 70 
 
 # What no file can show: 4,097 words in one packet; a word refused with 4 is not counted, so that it stands at 64 when it is given again; with a set
 # period of 3564 each of the found periods 0, 1 .. 3563 differs, and their sum is 3563 times 3564 / 2.
-CALLS = "words 4096 refused 3\nrefused 4 then 64 30 2 0\ndiffer 3564 sum 6349266\n"
+# An IHW on page 0 and on page 1: in the start state, in the three-way state, and there after a reset, which leads to the start state.
+CALLS = ("words 4096 refused 3\nrefused 4 then 64 30 2 0\ndiffer 3564 sum 6349266\n"
+         "page 0 start 0 three 1122 reset 0\npage 1 start 1121 three 0 reset 1121\n")
 
 
 def main():

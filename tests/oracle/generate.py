@@ -138,6 +138,10 @@ def well_formed(c, settings):
                 type = c.bits(12) | 1
             if c.often(0.15):
                 break
+            if c.often(0.2):  # the next trigger on a page of its own
+                number += 1
+                page(number)
+                out.append(['W', ihw(lanes)])
         page(number + 1, 1)
         out.append(['W', ddw0(status)])
         if bc > LAST_BC:
@@ -222,12 +226,13 @@ def lanes(c, settings):
 
 
 def calibration(c, settings):
-    """CDWs: first in a packet or not, user fields and index the same or not, over packets and resets."""
+    """CDWs: first in a packet or not, user fields and index the same or not, over packets and resets. The IHW of a packet comes after a reset, after a
+    DDW0 or in the three-way state."""
     users, indexes = [0, 1, 2**47, c.bits(48)], [0, 0, 1, 0xFFFF, 0x10000, 0xFFFFFF]
     out = [['S', settings]]
     for _ in range(2 + c.below(6)):
         out += [random_packet(c)]
-        out += [['R']] if c.often(0.5) else [['W', ddw0()]]
+        out += c.pick([[['R']], [['W', ddw0()]], []])
         out += [['W', ihw(0x1FF)], ['W', tdh(1, 0, 0)]]
         for _ in range(c.below(4)):
             out.append(['W', cdw(c.pick(users), c.pick(indexes))] if c.often(0.7) else ['W', word(c.bits(64), 0, 0x20)])

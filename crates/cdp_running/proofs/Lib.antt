@@ -2,6 +2,8 @@ pub mod Presence
 pub mod Good
 pub mod Calls
 pub mod Outcome
+pub mod Codes
 pub mod Fine
+pub mod Pages
 pub mod Unique
 pub mod Replace

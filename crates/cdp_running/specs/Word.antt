@@ -11,7 +11,7 @@ use Rattle.words.specs.Word.{wordBytes, wordOf}
 use Rattle.payload_fsm.specs.declared.ItsPayloadWord.{ItsPayloadWord}
 use Rattle.payload_fsm.specs.declared.ItsPayloadWord.the-variants as K
 use Rattle.payload_fsm.specs.declared.Advanced.{Advanced}
-use Rattle.payload_fsm.specs.Step.{advanceOf}
+use Rattle.payload_fsm.specs.Step.{advanceOf, isThree}
 use Rattle.records.specs.declared.Row.{Row}
 use Rattle.records.specs.Records.{Record, given, flat, room, over, exceed}
 use Rattle.validators.specs.Ihw as Ihw
@@ -33,7 +33,7 @@ takenAs t w = advanceOf (t .fsm .state) w
 
 -- The rows of a word by what it was taken as.
 abbrev pub rowsAs : ItsPayloadWord → Bool → Tracker → Word → List Row
-rowsAs K.Ihw guessed t w = Ihw.ihwRows (t .settings) (t .packet) w
+rowsAs K.Ihw guessed t w = Ihw.ihwRows (t .settings) (t .packet) (isThree (t .fsm .state)) w
 rowsAs K.IhwContinuation guessed t w = Ihw.continuationRows w
 rowsAs K.Tdh guessed t w = Tdh.tdhRows (t .settings) (t .packet) (t .internal) w
 rowsAs K.TdhAfterPacketDone guessed t w = Tdh.afterPacketDoneRows (t .settings) (t .tdh) (t .internal) w

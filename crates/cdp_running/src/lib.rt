@@ -135,7 +135,12 @@ fn rows_of(t: Tracker, a: Advanced, word: Word) -> [Row; MOST]
 {
     let kind = a.word;
     match kind {
-        ItsPayloadWord::Ihw => { validators::ihw::check_at_initial_ihw(t.settings, t.packet, word) }
+        ItsPayloadWord::Ihw => {
+            let fsm = t.fsm;
+            let state = fsm.state;
+            let three = state.is_three();
+            validators::ihw::check_at_initial_ihw(t.settings, t.packet, three, word)
+        }
         ItsPayloadWord::IhwContinuation => validators::ihw::check_continuation(word),
         ItsPayloadWord::Tdh => {
             tdh_validator::check_tdh_no_continuation(t.settings, t.packet, t.internal, word)

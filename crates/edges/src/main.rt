@@ -9,7 +9,7 @@ use validators::Packet;
 use validators::Settings;
 
 // How many files there are.
-const FILES: u8 = 47;
+const FILES: u8 = 57;
 
 fn text(bytes: &[u8]) {
     io::write_all(STDOUT_FILENO, bytes);
@@ -58,8 +58,8 @@ fn show_files() {
     }
 }
 
-// A tracker with running checks on, a period, and a packet at position 0 with BC 0 of format 2.
-fn packet_taken(period: u16) -> Tracker
+// A tracker with running checks on, a period, and a packet of a page at position 0 with BC 0 of format 2.
+fn packet_taken(period: u16, page: u16) -> Tracker
     ensures { λ r. ⌜ Good r ⌝ }
 {
     let start = Tracker::start(Settings {
@@ -73,7 +73,7 @@ fn packet_taken(period: u16) -> Tracker
         orbit: 0,
         trigger: 0,
         bc: 0,
-        page: 0,
+        page: page,
         stop: 0,
         format: 2,
     });
@@ -96,7 +96,7 @@ fn refusal(told: Told) -> u64 {
 
 // "4,096th word accepted, 4,097th refused 3": data words in one packet, up to a refusal.
 fn show_full() {
-    let mut t = packet_taken(198);
+    let mut t = packet_taken(198, 0);
     let mut out = [0u64; 24];
     let mut n: u64 = 0;
     while n < 5000 {
@@ -119,7 +119,7 @@ fn show_full() {
 
 // "Counting a word refused with 4": an IHW with a reserved bit, first with no room, then with room for its record.
 fn show_room() {
-    let t = packet_taken(198);
+    let t = packet_taken(198, 0);
     let mut small = [0u64; 3];
     let first = t.word(b"\0\0\0\x10\0\0\0\0\0\xE0", &mut small);
     let told = first.told;
@@ -150,19 +150,19 @@ fn found(out: [u64; 8]) -> u64 {
     }
 }
 
-// A tracker after an IHW and a TDH with BC 0.
-fn tdh_taken(period: u16) -> Tracker
+// A tracker after an IHW and a TDH with BC 0 and no data: in the three-way state.
+fn tdh_taken(period: u16, page: u16) -> Tracker
     ensures { λ r. ⌜ Good r ⌝ }
 {
     let mut out = [0u64; 8];
-    let begun = packet_taken(period).word(b"\0\0\0\0\0\0\0\0\0\xE0", &mut out);
+    let begun = packet_taken(period, page).word(b"\0\0\0\0\0\0\0\0\0\xE0", &mut out);
     let answer = begun.tracker.word(b"\0\x30\0\0\0\0\0\0\0\xE8", &mut out);
     answer.tracker
 }
 
 // "For legal BCs a set period of 3564 always differs": after an IHW and a TDH with BC 0, TDHs at the distances 0, 1 .. 3563.
 fn show_period() {
-    let mut t = tdh_taken(3564);
+    let mut t = tdh_taken(3564, 0);
     let mut bc: u64 = 0;
     let mut differ: u64 = 0;
     let mut sum: u64 = 0;
@@ -190,9 +190,34 @@ fn show_period() {
     text(b"\n");
 }
 
+// The code of the first record that an IHW gives, or 0.
+fn code_at_ihw(t: Tracker) -> u64
+    requires { ⌜ Good t ⌝ }
+{
+    let mut out = [0u64; 8];
+    t.word(b"\0\0\0\0\0\0\0\0\0\xE0", &mut out);
+    out[1]
+}
+
+// "1121 in the start state for a page not 0, and 1122 in the three-way state for a page of 0": the start state is reached by a reset too.
+fn show_page(page: u16) {
+    let three = tdh_taken(198, page);
+    text(b"page ");
+    number(page as u64);
+    text(b" start ");
+    number(code_at_ihw(packet_taken(198, page)));
+    text(b" three ");
+    number(code_at_ihw(three));
+    text(b" reset ");
+    number(code_at_ihw(three.reset()));
+    text(b"\n");
+}
+
 fn main() {
     show_files();
     show_full();
     show_room();
     show_period();
+    show_page(0);
+    show_page(1);
 }

@@ -9,8 +9,8 @@ use Rattle.words.specs.declared.Word.{Word}
 use Rattle.words.specs.Tdh.{noData, triggerBc, internalTrigger}
 use Rattle.words.specs.Lanes.{laneStatus, worstLane}
 use Rattle.data_ids.specs.DataIds.{outerLane}
-use Rattle.payload_fsm.specs.declared.State.{State}
 use Rattle.payload_fsm.specs.declared.State.the-variants as S
+use Rattle.payload_fsm.specs.Step.{isThree}
 use Rattle.payload_fsm.specs.Settle.{DataClear, TdtDone, stateAfter}
 use Rattle.records.specs.declared.Row.{Row}
 use Rattle.records.specs.Records.{when, Each}
@@ -32,15 +32,6 @@ periodic n = record { running = true; frames = true; periodic = true; period = n
 
 abbrev pub earlier : ℕ → InternalTdh
 earlier bc = record { stored = true; bc = bc }
-
-abbrev pub isThree : State → Bool
-isThree S.Ihw = false
-isThree S.Tdh = false
-isThree S.Data = false
-isThree S.CData = false
-isThree S.Three = true
-isThree S.CIhw = false
-isThree S.CTdh = false
 
 -- What a row says of the definitions.
 abbrev pub Holds : Edge → Type 0

@@ -1,6 +1,7 @@
 // The records of a word, from the numbers themselves. What a kind is checked for stands in cdp_running; here it is asked first whether there is any record.
 ghost use mathlib.Core.Path.{_≡_};
 ghost use mathlib.Core.Bool.{true};
+ghost use Rattle.payload_fsm.specs.Step.{isThree};
 ghost use Rattle.records.specs.Records.{padded, silent, WritePost};
 ghost use Rattle.cdp_running.specs.Word.{rowsOf};
 ghost use Rattle.tracker_array.specs.Read.{trackerIn};
@@ -12,7 +13,16 @@ use records::Row;
 use records::Written;
 use tracker_array::place;
 use tracker_array::read;
+use tracker_array::states;
 use words::Word;
+
+// Whether the word comes in the three-way state.
+fn in_three(a: &[u64]) -> bool
+    requires { ⌜ GoodArray (now a) ⌝ }
+    ensures { λ r. ⌜ r ≡ isThree (trackerIn (now (a .entry)) .fsm .state) ⌝ }
+{
+    states::state_of(a[place::STATE]).is_three()
+}
 
 // The rows of a word, by what it was taken as.
 fn rows(a: &[u64], taken: Advanced, word: Word) -> [Row; MOST]
@@ -21,9 +31,12 @@ fn rows(a: &[u64], taken: Advanced, word: Word) -> [Row; MOST]
 {
     let kind = taken.word;
     match kind {
-        ItsPayloadWord::Ihw => {
-            validators::ihw::check_at_initial_ihw(read::settings(a), read::packet(a), word)
-        }
+        ItsPayloadWord::Ihw => validators::ihw::check_at_initial_ihw(
+            read::settings(a),
+            read::packet(a),
+            in_three(a),
+            word,
+        ),
         ItsPayloadWord::IhwContinuation => validators::ihw::check_continuation(word),
         ItsPayloadWord::Tdh => tdh_validator::check_tdh_no_continuation(
             read::settings(a),
@@ -79,6 +92,7 @@ fn is_silent(a: &[u64], taken: Advanced, word: Word) -> bool
         ItsPayloadWord::Ihw => records::silent(validators::ihw::check_at_initial_ihw(
             read::settings(a),
             read::packet(a),
+            in_three(a),
             word,
         )),
         ItsPayloadWord::IhwContinuation => {

@@ -59,6 +59,16 @@ advanceOf S.Three w = inThree w
 advanceOf S.CIhw w = taken K.IhwContinuation S.CTdh
 advanceOf S.CTdh w = taken K.TdhContinuation S.CData
 
+-- Whether a state is THREE, the three-way state.
+abbrev pub isThree : State → Bool
+isThree S.Ihw = false
+isThree S.Tdh = false
+isThree S.Data = false
+isThree S.CData = false
+isThree S.Three = true
+isThree S.CIhw = false
+isThree S.CTdh = false
+
 -- The state after a word.
 abbrev pub nextState : State → Word → State
 nextState state w = advanceOf state w .fsm .state

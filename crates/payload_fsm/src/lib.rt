@@ -2,7 +2,7 @@
 // Document 01, "The tracker"; the Rust's its_payload_fsm_cont.rs.
 ghost use mathlib.Core.Path.{_≡_};
 ghost use Rattle.payload_fsm.specs.Kinds.{kindNumber, isIhw, isTdh, isData, isTdt};
-ghost use Rattle.payload_fsm.specs.Step.{start, taken, guess, afterTdh, inData, inThree, advanceOf};
+ghost use Rattle.payload_fsm.specs.Step.{start, isThree, taken, guess, afterTdh, inData, inThree, advanceOf};
 use words::Word;
 use words::cdw::Cdw;
 use words::ddw::Ddw0;
@@ -26,6 +26,23 @@ pub enum State {
     CIhw,
     // c_TDH_
     CTdh,
+}
+
+impl State {
+    // The three-way state.
+    pub fn is_three(self) -> bool
+        ensures { λ r. ⌜ r ≡ isThree self ⌝ }
+    {
+        match self {
+            State::Ihw => false,
+            State::Tdh => false,
+            State::Data => false,
+            State::CData => false,
+            State::Three => true,
+            State::CIhw => false,
+            State::CTdh => false,
+        }
+    }
 }
 
 // What a word is taken as.

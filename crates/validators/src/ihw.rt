@@ -22,27 +22,24 @@ fn sanity_check(word: Word) -> u64
     pick(id == Ihw::ID, pick(clean, 0, 2), 1)
 }
 
-// Kind IHW: with the stop bit and the page of the packet.
-pub fn check_at_initial_ihw(settings: Settings, packet: Packet, word: Word) -> [Row; MOST]
-    ensures { λ r. ⌜ r ≡ padded (ihwRows settings packet word) ⌝ }
+// Kind IHW: with the stop bit and the page of the packet, whose first page is asked for in the start state and a later one in the three-way state.
+pub fn check_at_initial_ihw(
+    settings: Settings,
+    packet: Packet,
+    three: bool,
+    word: Word,
+) -> [Row; MOST]
+    ensures { λ r. ⌜ r ≡ padded (ihwRows settings packet three word) ⌝ }
 {
     let fault = sanity_check(word);
+    let stop = packet.stop as u64;
+    let page = packet.page as u64;
     let z = none();
     [
         when(fault != 0, 30, fault, 0),
-        when(
-            settings.running & (packet.stop != 0),
-            1120,
-            packet.stop as u64,
-            0,
-        ),
-        when(
-            settings.running & (packet.page != 0),
-            1121,
-            packet.page as u64,
-            0,
-        ),
-        z,
+        when(settings.running & (stop != 0), 1120, stop, 0),
+        when(settings.running & (!three & (page != 0)), 1121, page, 0),
+        when(settings.running & (three & (page == 0)), 1122, page, 0),
         z,
         z,
     ]

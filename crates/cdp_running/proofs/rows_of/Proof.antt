@@ -5,7 +5,7 @@ use Rattle.cdp_running.proofs.rows_of.Statement.{statement}
 use Rattle.cdp_running.proofs.rows_of.Tie as tie
 
 returns : tie.Need-returns
-returns c = simp (c .before .enum-told .given .1, c .check-at-initial-ihw .ensures)
+returns c = simp (c .before .before .before .enum-told .given .1, c .check-at-initial-ihw .ensures, c .before .is-three .ensures)
 
 returns-2 : tie.Need-returns-2
 returns-2 c = simp (c .before .enum-told2 .given .1, c .check-continuation .ensures)
@@ -32,4 +32,10 @@ returns-9 : tie.Need-returns-9
 returns-9 c = simp (c .before .enum-told9 .given .1, c .check-at-ddw0 .ensures)
 
 pub rows-of-spec : {M : Type 1} → statement M
-rows-of-spec = tie.close (tie.spec (λ c. search needs) (λ c. search needs) (λ c. search needs) (λ c. search needs) (λ c. search needs) (λ c. search needs) (λ c. search needs) (λ c. search needs) (λ c. search needs) (λ c. search needs) (λ c. search needs) (λ c. search needs) (λ c. search needs) (λ c. search needs) (λ c. search needs) (λ c. search needs) (λ c. search needs) (λ c. search needs) returns returns-2 returns-3 returns-4 returns-5 returns-6 returns-7 returns-8 returns-9)
+rows-of-spec =
+    tie.close
+    (tie.spec (λ c. search needs) (λ c. search needs) (λ c. search needs) (λ c. search needs) (λ c. search needs) (λ c. search needs)
+    (λ c. search needs) (λ c. search needs) (λ c. search needs) (λ c. search needs) (λ c. search needs) (λ c. search needs)
+    (λ c. search needs) (λ c. search needs) (λ c. search needs) (λ c. search needs) (λ c. search needs) (λ c. search needs)
+    (λ c. search needs) returns returns-2 returns-3 returns-4
+    returns-5 returns-6 returns-7 returns-8 returns-9)

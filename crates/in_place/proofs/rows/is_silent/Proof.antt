@@ -12,8 +12,10 @@ use Rattle.in_place.proofs.rows.is_silent.Tie as tie
 
 returns : tie.Need-returns
 returns c =
-    let c6 = c .before .before .before .before .before .before in
-    kind-silent (trackerIn (now (c6 .before .args .a))) (c6 .before .args .taken) (c6 .before .args .word) K.Ihw (c .before .before .before .before .enum-told .given .1) (c .silent .ensures) (simp (c .before .check-at-initial-ihw .ensures, c .before .before .before .settings .ensures, c .before .before .packet .ensures))
+    let c3 = c .before .before .before in
+    let start = c3 .before .before .before .before .before in
+    kind-silent (trackerIn (now (start .args .a))) (start .args .taken) (start .args .word) K.Ihw (c3 .before .before .enum-told .given .1) (c .silent .ensures)
+    (simp (c .before .check-at-initial-ihw .ensures, c3 .before .settings .ensures, c3 .packet .ensures, c .before .before .in-three .ensures))
 
 returns-2 : tie.Need-returns-2
 returns-2 c = kind-silent (trackerIn (now (c .before .before .before .before .before .args .a))) (c .before .before .before .before .before .args .taken) (c .before .before .before .before .before .args .word) K.IhwContinuation (c .before .before .enum-told2 .given .1) (c .silent2 .ensures) (simp (c .before .check-continuation .ensures))
@@ -54,5 +56,5 @@ is-silent-spec =
     (λ c. search needs) (λ c. search needs) (λ c. search needs) (λ c. search needs) (λ c. search needs) (λ c. search needs)
     (λ c. search needs) (λ c. search needs) (λ c. search needs) (λ c. search needs) (λ c. search needs) (λ c. search needs)
     (λ c. search needs) (λ c. search needs) (λ c. search needs) (λ c. search needs) (λ c. search needs) (λ c. search needs)
-    (λ c. search needs) (λ c. search needs) (λ c. search needs) (λ c. search needs) (λ c. search needs) returns returns-2 returns-3
-    returns-4 returns-5 returns-6 returns-7 returns-8)
+    (λ c. search needs) (λ c. search needs) (λ c. search needs) (λ c. search needs) (λ c. search needs) (λ c. search needs) returns
+    returns-2 returns-3 returns-4 returns-5 returns-6 returns-7 returns-8)

@@ -5,7 +5,9 @@ use Rattle.in_place.proofs.rows.rows.Statement.{statement}
 use Rattle.in_place.proofs.rows.rows.Tie as tie
 
 returns : tie.Need-returns
-returns c = simp (c .before .before .before .enum-told .given .1, c .check-at-initial-ihw .ensures, c .before .before .settings .ensures, c .before .packet .ensures)
+returns c =
+    let c2 = c .before .before in
+    simp (c2 .before .before .enum-told .given .1, c .check-at-initial-ihw .ensures, c2 .before .settings .ensures, c2 .packet .ensures, c .before .in-three .ensures)
 
 returns-2 : tie.Need-returns-2
 returns-2 c = simp (c .before .enum-told2 .given .1, c .check-continuation .ensures)
@@ -40,5 +42,5 @@ rows-spec =
     (λ c. search needs) (λ c. search needs) (λ c. search needs) (λ c. search needs) (λ c. search needs) (λ c. search needs)
     (λ c. search needs) (λ c. search needs) (λ c. search needs) (λ c. search needs) (λ c. search needs) (λ c. search needs)
     (λ c. search needs) (λ c. search needs) (λ c. search needs) (λ c. search needs) (λ c. search needs) (λ c. search needs)
-    (λ c. search needs) (λ c. search needs) (λ c. search needs) (λ c. search needs) (λ c. search needs) (λ c. search needs) returns
-    returns-2 returns-3 returns-4 returns-5 returns-6 returns-7 returns-8 returns-9)
+    (λ c. search needs) (λ c. search needs) (λ c. search needs) (λ c. search needs) (λ c. search needs) (λ c. search needs)
+    (λ c. search needs) returns returns-2 returns-3 returns-4 returns-5 returns-6 returns-7 returns-8 returns-9)

@@ -5,7 +5,13 @@ use Rattle.validators.proofs.ihw.check_at_initial_ihw.Statement.{statem
 use Rattle.validators.proofs.ihw.check_at_initial_ihw.Tie as tie
 
 returns : tie.Need-returns
-returns c = simp (c .when3 .ensures, c .before .before .before .before .when2 .ensures, c .before .before .before .before .before .before .before .before .when .ensures, c .before .before .before .before .before .before .before .before .before .none .ensures, c .before .before .before .before .before .before .before .before .before .before .sanity-check .ensures)
+returns c =
+    let c4 = c .before .before .before .before in
+    let c7 = c4 .before .before .before in
+    simp (c .when4 .ensures, c .before .before .when3 .ensures, c4 .when2 .ensures, c4 .before .before .when .ensures, c7 .none .ensures, c7 .before .before .before .sanity-check .ensures)
 
 pub check-at-initial-ihw-spec : {M : Type 1} → statement M
-check-at-initial-ihw-spec = tie.close (tie.spec (λ c. search needs) (λ c. search needs) (λ c. search needs) (λ c. search needs) (λ c. search needs) (λ c. search needs) (λ c. search needs) returns)
+check-at-initial-ihw-spec =
+    tie.close
+    (tie.spec (λ c. search needs) (λ c. search needs) (λ c. search needs) (λ c. search needs) (λ c. search needs) (λ c. search needs)
+    (λ c. search needs) (λ c. search needs) returns)

@@ -1,7 +1,8 @@
 //! Stand-in for the macro `sm!` of the crate sm, with the names that sm 0.9 makes: a module by the machine's name, a unit struct for
 //! each state and event, `Machine<S, E>`, and an enum `Variant` with a case `{State}By{Event}` for each pair of a target state and an
 //! event, and a case `Initial{State}` for each initial state. A transition that is not listed has no impl, so the given text compiles
-//! only if it uses listed ones.
+//! only if it uses listed ones. Beside what sm makes there is `FROM`: where an event leads from several states to one, the state that the last such
+//! step left. The stand-in of the packet's checks reads it, since the given text hands over no state.
 extern crate proc_macro;
 use proc_macro::{TokenStream, TokenTree};
 
@@ -71,6 +72,7 @@ pub fn sm(input: TokenStream) -> TokenStream {
     for s in states.iter().chain(events.iter()) {
         o += &format!("{d} {s};\n");
     }
+    o += "thread_local! { pub static FROM: std::cell::Cell<&'static str> = const { std::cell::Cell::new(\"\") }; }\n";
     o += "pub trait InitialState {}\n";
     for s in &initial {
         o += &format!("impl InitialState for {s} {{}}\n");
@@ -79,9 +81,11 @@ pub fn sm(input: TokenStream) -> TokenStream {
     o += "impl<S: InitialState> Machine<S, NoneEvent> { pub fn new(s: S) -> Self { Machine(s, None) } }\n";
     o += "pub trait Transition<Ev> { type Out; fn go(self, ev: Ev) -> Self::Out; }\n";
     for (e, f, t) in &trans {
+        let several = trans.iter().filter(|(event, _, to)| event == e && to == t).count() > 1;
+        let from = if several { format!("FROM.with(|c| c.set(\"{f}\"));") } else { String::new() };
         o += &format!(
             "impl<E> Transition<{e}> for Machine<{f}, E> {{ type Out = Machine<{t}, {e}>; \
-             #[inline] fn go(self, ev: {e}) -> Self::Out {{ Machine({t}, Some(ev)) }} }}\n"
+             #[inline] fn go(self, ev: {e}) -> Self::Out {{ {from} Machine({t}, Some(ev)) }} }}\n"
         );
     }
     o += "impl<S, E> Machine<S, E> {\n\

@@ -1,5 +1,7 @@
-//! Stand-in for the checks of the packet at an IHW and at a DDW0, from 01 (1110, 1111, 1120, 1121).
+//! Stand-in for the checks of the packet at an IHW and at a DDW0, from 01 (1110, 1111, 1120), and of the page at an IHW from 02 (1121, 1122). The given
+//! text calls the check at an IHW with the packet alone; the state that the IHW came in is read from the stand-in of `sm!`.
 use crate::util::*;
+use its_payload_fsm_cont::ITS_Payload_Continuous::FROM;
 pub struct ItsRdhValidator<T: RDH> {
     rdh: Option<T>,
 }
@@ -36,8 +38,12 @@ impl<T: RDH> ItsRdhValidator<T> {
         if s != 0 {
             e.push(format!("[E1120] IHW observed but RDH stop bit is not 0 @{s},0@"));
         }
-        if p != 0 {
-            e.push(format!("[E1121] IHW observed but RDH page counter is not 0 @{p},0@"));
+        let three = FROM.with(|c| c.get()) == "DDW0_or_TDH_or_IHW_";
+        if !three && p != 0 {
+            e.push(format!("[E1121] first IHW observed but RDH page counter is not 0 @{p},0@"));
+        }
+        if three && p == 0 {
+            e.push(format!("[E1122] later IHW observed but RDH page counter is 0 @{p},0@"));
         }
         if e.is_empty() {
             Ok(())

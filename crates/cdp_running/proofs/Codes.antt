@@ -1,0 +1,91 @@
+-- The codes that a word can give, by what it was taken as. No word gives 990.
+-- Assumes nothing.
+use Prim.Native.Nat.{ℕ}
+use mathlib.Core.Path.{_≡_, refl, sym, ap, _∙_}
+use mathlib.Core.Bool.{Bool, true, false, cond, _||_, true≢false}
+use mathlib.Core.List.{List, [], _∷_, _++_}
+use lib.Dec.{eqb}
+use Rattle.words.specs.declared.Word.{Word}
+use Rattle.words.specs.Tdh.{triggerBc}
+use Rattle.payload_fsm.specs.declared.ItsPayloadWord.{ItsPayloadWord}
+use Rattle.payload_fsm.specs.declared.ItsPayloadWord.the-variants as K
+use Rattle.payload_fsm.proofs.Rows.{choice}
+use Rattle.records.specs.declared.Row.{Row}
+use Rattle.records.specs.Records.{Record, given, recordAt, Each}
+use Rattle.tdh_validator.specs.Tdh.{illegal}
+use Rattle.cdp_running.specs.declared.Tracker.{Tracker}
+use Rattle.cdp_running.specs.Word.{rowsAs, rowsOf, takenAs, positionNow, recordsOf}
+
+-- What holds of the record of each row whose condition holds, holds of each record that is given.
+pub given-each : (P : Record → Type 0) (position : ℕ) (rows : List Row) → Each (λ row. row .on ≡ true → P (recordAt position row)) rows
+    → Each P (given position rows)
+unfolding given
+given-each P position [] e = e
+given-each P position (row ∷ rows) e = at (row .on) (e .0) (given-each P position rows (e .1))
+  where
+    at : (on : Bool) → (on ≡ true → P (recordAt position row)) → Each P (given position rows)
+        → Each P (cond on (recordAt position row ∷ []) [] ++ given position rows)
+    at true p rest = (p refl, rest)
+    at false p rest = rest
+
+pub each-so : {A : Type 0} {P Q : A → Type 0} → ((x : A) → P x → Q x) → (xs : List A) → Each P xs → Each Q xs
+each-so f [] e = e
+each-so f (x ∷ xs) e = (f x (e .0), each-so f xs (e .1))
+
+abbrev pub among : ℕ → List ℕ → Bool
+among code [] = false
+among code (c ∷ cs) = eqb code c || among code cs
+
+abbrev pub codesAs : ItsPayloadWord → List ℕ
+codesAs K.Ihw = 30 ∷ 1120 ∷ 1121 ∷ 1122 ∷ []
+codesAs K.IhwContinuation = 30 ∷ []
+codesAs K.Tdh = 40 ∷ 42 ∷ 444 ∷ 445 ∷ 44 ∷ 1045 ∷ 45 ∷ []
+codesAs K.TdhAfterPacketDone = 40 ∷ 440 ∷ 1045 ∷ 45 ∷ []
+codesAs K.TdhContinuation = 40 ∷ 41 ∷ 441 ∷ 442 ∷ 443 ∷ []
+codesAs K.DataWord = 991 ∷ 81 ∷ 70 ∷ 1072 ∷ 1071 ∷ 1073 ∷ []
+codesAs K.Cdw = 991 ∷ 81 ∷ 70 ∷ 1072 ∷ 1071 ∷ 1073 ∷ []
+codesAs K.Tdt = 50 ∷ 59 ∷ []
+codesAs K.Ddw0 = 992 ∷ 60 ∷ 1110 ∷ 1111 ∷ []
+
+abbrev pub In : ItsPayloadWord → ℕ → Type 0
+In kind code = among code (codesAs kind) ≡ true
+
+-- A code that is not among them is not given.
+pub not-in : (kind : ItsPayloadWord) (code : ℕ) → among code (codesAs kind) ≡ false → {c : ℕ} → In kind c → c ≡ code → ⊥
+not-in kind code e {c} p q = true≢false (sym p ∙ ap (λ (n : ℕ). among n (codesAs kind)) q ∙ e)
+
+pub rows-in : (kind : ItsPayloadWord) (guessed : Bool) (t : Tracker) (w : Word) → Each (λ row. In kind (row .code)) (rowsAs kind guessed t w)
+rows-in K.Ihw guessed t w = (refl, (refl, (refl, (refl, tt))))
+rows-in K.IhwContinuation guessed t w = (refl, tt)
+rows-in K.Tdh guessed t w =
+    (refl, (refl, (refl, (refl, (refl, (choice (In K.Tdh) (illegal (t .internal .bc) (triggerBc w)) refl refl, tt))))))
+rows-in K.TdhAfterPacketDone guessed t w = (refl, (refl, (choice (In K.TdhAfterPacketDone) (illegal (t .internal .bc) (triggerBc w)) refl refl, tt)))
+rows-in K.TdhContinuation guessed t w = (refl, (refl, (refl, (refl, (refl, tt)))))
+rows-in K.DataWord guessed t w = (refl, (refl, (refl, (refl, (refl, (refl, tt))))))
+rows-in K.Cdw guessed t w = (refl, (refl, (refl, (refl, (refl, (refl, tt))))))
+rows-in K.Tdt guessed t w = (refl, (refl, tt))
+rows-in K.Ddw0 guessed t w = (refl, (refl, (refl, (refl, tt))))
+
+none-is-990 : (kind : ItsPayloadWord) → among 990 (codesAs kind) ≡ false
+none-is-990 K.Ihw = refl
+none-is-990 K.IhwContinuation = refl
+none-is-990 K.Tdh = refl
+none-is-990 K.TdhAfterPacketDone = refl
+none-is-990 K.TdhContinuation = refl
+none-is-990 K.DataWord = refl
+none-is-990 K.Cdw = refl
+none-is-990 K.Tdt = refl
+none-is-990 K.Ddw0 = refl
+
+module _ (t : Tracker) (w : Word) where
+  -- A word gives no code but those of what it was taken as.
+  pub codes-by-kind : Each (λ r. In (takenAs t w .word) (r .code)) (recordsOf t w)
+  unfolding recordsOf
+  codes-by-kind =
+      let a = takenAs t w in
+      given-each (λ r. In (a .word) (r .code)) (positionNow t) (rowsOf t a w)
+      (each-so (λ row p _. p) (rowsOf t a w) (rows-in (a .word) (a .guessed) t w))
+
+  -- No record has code 990.
+  pub none-990 : Each (λ r. r .code ≡ 990 → ⊥) (recordsOf t w)
+  none-990 = each-so (λ r. not-in (takenAs t w .word) 990 (none-is-990 (takenAs t w .word))) (recordsOf t w) codes-by-kind
