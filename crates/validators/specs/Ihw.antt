@@ -27,6 +27,5 @@ ihwRows s p three w =
     ∷ []
 
 -- A continuation is asked for neither stop nor page.
-
 abbrev pub continuationRows : Word → List Row
 continuationRows w = detailed 30 (detail w) ∷ []

@@ -22,7 +22,7 @@ fn sanity_check(word: Word) -> u64
     pick(id == Ihw::ID, pick(clean, 0, 2), 1)
 }
 
-// Kind IHW: with the stop bit and the page of the packet, whose first page is asked for in the start state and a later one in the three-way state.
+// Kind IHW: with the packet's stop and page. In the start state the first page is to come, in the three-way state a later one.
 pub fn check_at_initial_ihw(
     settings: Settings,
     packet: Packet,
