@@ -645,8 +645,8 @@ static void ihw_at_page(size_t way, uint64_t page, uint64_t stop, bool running)
             memcpy(said + n++ * KHZ_RECORD_NUMBERS, record, sizeof record);
         }
     a = khz_word(t, KHZ_TRACKER_WORDS, ihw, sizeof ihw, records, sizeof records / sizeof *records);
-    expect(a.kind == (comes_in == CONTINUED ? KHZ_IHW_CONTINUATION : KHZ_IHW) && a.records == n && memcmp(records, said, n * sizeof *said * KHZ_RECORD_NUMBERS) == 0,
-           "an IHW gives other records than its state, page and stop say");
+    expect(a.kind == (comes_in == CONTINUED ? KHZ_IHW_CONTINUATION : KHZ_IHW), "a word is no IHW where one comes");
+    expect(a.records == n && memcmp(records, said, n * sizeof *said * KHZ_RECORD_NUMBERS) == 0, "an IHW gives other records than its state, page and stop say");
 }
 
 /* Two orbits, each of 65,535 pages with a trigger on each and a page with a DDW0, so that every page number comes up: no record at all. */
