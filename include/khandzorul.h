@@ -136,8 +136,8 @@ enum khz_code {
     KHZ_CODE_DDW0_STOP = 1110,                   /* R: a DDW0 stands in a packet whose stop is not 1 */
     KHZ_CODE_DDW0_PAGE = 1111,                   /* R: a DDW0 stands on page 0 */
     KHZ_CODE_IHW_STOP = 1120,                    /* R: an IHW stands in a packet whose stop is not 0 */
-    KHZ_CODE_IHW_PAGE = 1121,                    /* R: in the start state an IHW stands on a page other than 0 */
-    KHZ_CODE_IHW_LATER_PAGE = 1122               /* R: in the three-way state an IHW stands on page 0 */
+    KHZ_CODE_IHW_PAGE = 1121,                    /* R: an IHW after the start, a reset or a DDW0 stands on a page other than 0 */
+    KHZ_CODE_IHW_LATER_PAGE = 1122               /* R: an IHW after a complete trigger, no DDW0 between, stands on page 0 */
 };
 
 /* Answer of khz_word. */

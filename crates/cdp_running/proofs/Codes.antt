@@ -2,35 +2,19 @@
 -- Assumes nothing.
 use Prim.Native.Nat.{ℕ}
 use mathlib.Core.Path.{_≡_, refl, sym, ap, _∙_}
-use mathlib.Core.Bool.{Bool, true, false, cond, _||_, true≢false}
-use mathlib.Core.List.{List, [], _∷_, _++_}
+use mathlib.Core.Bool.{Bool, true, false, _||_, true≢false}
+use mathlib.Core.List.{List, [], _∷_}
 use lib.Dec.{eqb}
 use Rattle.words.specs.declared.Word.{Word}
 use Rattle.words.specs.Tdh.{triggerBc}
 use Rattle.payload_fsm.specs.declared.ItsPayloadWord.{ItsPayloadWord}
 use Rattle.payload_fsm.specs.declared.ItsPayloadWord.the-variants as K
 use Rattle.payload_fsm.proofs.Rows.{choice}
-use Rattle.records.specs.declared.Row.{Row}
-use Rattle.records.specs.Records.{Record, given, recordAt, Each}
+use Rattle.records.specs.Records.{Each}
+use Rattle.records.proofs.Given.{given-each, each-so}
 use Rattle.tdh_validator.specs.Tdh.{illegal}
 use Rattle.cdp_running.specs.declared.Tracker.{Tracker}
 use Rattle.cdp_running.specs.Word.{rowsAs, rowsOf, takenAs, positionNow, recordsOf}
-
--- What holds of the record of each row whose condition holds, holds of each record that is given.
-pub given-each : (P : Record → Type 0) (position : ℕ) (rows : List Row) → Each (λ row. row .on ≡ true → P (recordAt position row)) rows
-    → Each P (given position rows)
-unfolding given
-given-each P position [] e = e
-given-each P position (row ∷ rows) e = at (row .on) (e .0) (given-each P position rows (e .1))
-  where
-    at : (on : Bool) → (on ≡ true → P (recordAt position row)) → Each P (given position rows)
-        → Each P (cond on (recordAt position row ∷ []) [] ++ given position rows)
-    at true p rest = (p refl, rest)
-    at false p rest = rest
-
-pub each-so : {A : Type 0} {P Q : A → Type 0} → ((x : A) → P x → Q x) → (xs : List A) → Each P xs → Each Q xs
-each-so f [] e = e
-each-so f (x ∷ xs) e = (f x (e .0), each-so f xs (e .1))
 
 abbrev pub among : ℕ → List ℕ → Bool
 among code [] = false

@@ -11,12 +11,11 @@ use Rattle.payload_fsm.specs.declared.ItsPayloadWord.{ItsPayloadWord}
 use Rattle.payload_fsm.specs.declared.ItsPayloadWord.the-variants as K
 use Rattle.records.specs.declared.Row.{Row}
 use Rattle.records.specs.Records.{count, Each}
-use Rattle.records.proofs.Given.{counted}
+use Rattle.records.proofs.Given.{counted, given-each}
 use Rattle.cdp_running.specs.declared.Tracker.{Tracker}
 use Rattle.cdp_running.specs.Tracker.{Good, mostPosition, maxWords}
 use Rattle.cdp_running.specs.Word.{rowsAs, rowsOf, takenAs, positionNow, recordsOf}
 use Rattle.cdp_running.proofs.Good.{position-most}
-use Rattle.cdp_running.proofs.Codes.{given-each}
 
 count-low : (rows : List Row) → count rows ≤ length rows
 unfolding count

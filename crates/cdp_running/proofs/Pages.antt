@@ -12,52 +12,18 @@ use Rattle.words.specs.declared.Word.{Word}
 use Rattle.words.specs.Word.{idOf}
 use Rattle.words.specs.Ihw.{ihwId, isReserved0}
 use Rattle.words.proofs.Tests.{both}
-use Rattle.payload_fsm.specs.declared.State.{State}
 use Rattle.payload_fsm.specs.declared.State.the-variants as S
 use Rattle.payload_fsm.specs.declared.ItsPayloadWord.{ItsPayloadWord}
 use Rattle.payload_fsm.specs.declared.ItsPayloadWord.the-variants as K
-use Rattle.payload_fsm.specs.declared.Advanced.{Advanced}
-use Rattle.payload_fsm.specs.Step.{isThree, advanceOf}
-use Rattle.payload_fsm.proofs.Rows.{data-rows}
+use Rattle.payload_fsm.specs.Step.{isThree}
+use Rattle.payload_fsm.proofs.States.{isInitial, three-is, start-or-three}
 use Rattle.records.specs.declared.Row.{Row}
 use Rattle.records.specs.Records.{Each, given}
+use Rattle.records.proofs.Given.{given-each, each-so}
 use Rattle.validators.specs.Detail.{differ}
 use Rattle.cdp_running.specs.declared.Tracker.{Tracker}
 use Rattle.cdp_running.specs.Word.{rowsAs, rowsOf, takenAs, positionNow, recordsOf}
-use Rattle.cdp_running.proofs.Codes.{among, codesAs, given-each, each-so, not-in, rows-in}
-
-three-is : (state : State) → isThree state ≡ true → state ≡ S.Three
-three-is S.Ihw e = absurd (true≢false (sym e))
-three-is S.Tdh e = absurd (true≢false (sym e))
-three-is S.Data e = absurd (true≢false (sym e))
-three-is S.CData e = absurd (true≢false (sym e))
-three-is S.Three e = refl
-three-is S.CIhw e = absurd (true≢false (sym e))
-three-is S.CTdh e = absurd (true≢false (sym e))
-
-abbrev isInitial : ItsPayloadWord → Bool
-isInitial K.Ihw = true
-isInitial K.IhwContinuation = false
-isInitial K.Tdh = false
-isInitial K.TdhAfterPacketDone = false
-isInitial K.TdhContinuation = false
-isInitial K.DataWord = false
-isInitial K.Cdw = false
-isInitial K.Tdt = false
-isInitial K.Ddw0 = false
-
-abbrev Else : Advanced → Type 0
-Else a = isInitial (a .word) ≡ false
-
--- A word is taken as kind IHW in the three-way state, or else in the start state.
-pub start-or-three : (state : State) (w : Word) → advanceOf state w .word ≡ K.Ihw → isThree state ≡ false → state ≡ S.Ihw
-start-or-three S.Ihw w e n = refl
-start-or-three S.Tdh w e n = absurd (true≢false (sym (ap isInitial e)))
-start-or-three S.Data w e n = absurd (true≢false (sym (ap isInitial e) ∙ data-rows Else w S.Data refl refl refl refl refl))
-start-or-three S.CData w e n = absurd (true≢false (sym (ap isInitial e) ∙ data-rows Else w S.CData refl refl refl refl refl))
-start-or-three S.Three w e n = absurd (true≢false n)
-start-or-three S.CIhw w e n = absurd (true≢false (sym (ap isInitial e)))
-start-or-three S.CTdh w e n = absurd (true≢false (sym (ap isInitial e)))
+use Rattle.cdp_running.proofs.Codes.{among, codesAs, not-in, rows-in}
 
 -- Both codes are of an IHW alone.
 of-ihw : (kind : ItsPayloadWord) → (among 1121 (codesAs kind) ≡ isInitial kind) × (among 1122 (codesAs kind) ≡ isInitial kind)

@@ -1,5 +1,6 @@
 pub mod Rows
 pub mod Unknown
+pub mod States
 pub mod Rust
 pub mod Settle
 pub mod Unique

@@ -1,4 +1,4 @@
--- Laws of the records that rows give: how many there are, when there are none, and of rows one after the other.
+-- Laws of the records that rows give: how many there are, when there are none, what holds of each, and of rows one after the other.
 -- Assumes nothing.
 use Prim.Native.Nat.{ℕ, zero, suc, _+_, _-_, _*_, _<_}
 use mathlib.Core.Path.{_≡_, refl, sym, ap, _∙_}
@@ -11,7 +11,7 @@ use lib.ListN.{length, getD, take, replicate, length-append}
 use lib.Seq.{take-suc}
 use Rattle.words.proofs.Listing.{reads-all}
 use Rattle.records.specs.declared.Row.{Row}
-use Rattle.records.specs.Records.{Record, recordAt, none, numbers, flat, given, count, anyOn, silent, recordWidth, mostRecords, padded}
+use Rattle.records.specs.Records.{Record, recordAt, none, numbers, flat, given, count, anyOn, silent, recordWidth, mostRecords, padded, Each}
 
 -- One row's records.
 abbrev pub one : ℕ → Row → List Record
@@ -25,6 +25,23 @@ counted position (row ∷ rows) = length-append (one position row) (given positi
     head : (on : Bool) → length (cond on (recordAt position row ∷ []) []) ≡ cond on 1 0
     head true = refl
     head false = refl
+
+-- What holds of the record of each row whose condition holds, holds of each record that is given.
+pub given-each : (P : Record → Type 0) (position : ℕ) (rows : List Row) → Each (λ row. row .on ≡ true → P (recordAt position row)) rows
+    → Each P (given position rows)
+unfolding given
+given-each P position [] e = e
+given-each P position (row ∷ rows) e = at (row .on) (e .0) (given-each P position rows (e .1))
+  where
+    at : (on : Bool) → (on ≡ true → P (recordAt position row)) → Each P (given position rows)
+        → Each P (cond on (recordAt position row ∷ []) [] ++ given position rows)
+    at true p rest = (p refl, rest)
+    at false p rest = rest
+
+-- What follows from a property of each holds of each.
+pub each-so : {A : Type 0} {P Q : A → Type 0} → ((x : A) → P x → Q x) → (xs : List A) → Each P xs → Each Q xs
+each-so f [] e = e
+each-so f (x ∷ xs) e = (f x (e .0), each-so f xs (e .1))
 
 pub given-append : (position : ℕ) (xs ys : List Row) → given position (xs ++ ys) ≡ given position xs ++ given position ys
 unfolding given
