@@ -1,6 +1,6 @@
 /* boundary.c: the C boundary by example: 01's whole case through word and payload calls, every number and length that comes in about the edge of
  * its range, khz_check_file about its edges, the writers of words beside a model that sets bit after bit, the worst lane beside all 28, two
- * trackers that are back in step, and the page at an IHW.
+ * trackers that are back in step, the page at an IHW, and every id in the data section against the active lanes.
  *
  *     cc -std=c11 -I include tests/boundary.c target/staticlib/libkhandzorul.a -o /tmp/boundary && /tmp/boundary
  *
@@ -687,6 +687,85 @@ static void pages(void)
     long_run();
 }
 
+/* The records that 01 and 02 give of a word in the data section at position 84, by its id, the active lanes and whether running checks are on: how many. */
+static size_t said_of_id(unsigned id, uint64_t active, bool running, uint64_t said[][KHZ_RECORD_NUMBERS])
+{
+    static const uint64_t outer_none[4] = {78, 93, 108, 28}; /* ids 0x47, 0x4F, 0x57, 0x5F */
+    bool inner = id >> 5 == 1, outer = id >> 5 == 2, none = inner ? id > 0x28 : id % 8 == 7;
+    uint64_t lane = inner ? id - 0x20 : none ? outer_none[id / 8 % 4] : (id - 0x40) / 8 * 7 + id % 8;
+    bool data = (inner || outer) && !none, on = !none && (active >> lane & 1);
+    size_t n = 0;
+
+    if (!data) {
+        const uint64_t unknown[2][KHZ_RECORD_NUMBERS] = {{84, KHZ_CODE_UNKNOWN_IN_DATA, id, 0}, {84, KHZ_CODE_NO_DATA_ID, id, 0}};
+        memcpy(said, unknown, sizeof unknown);
+        n = 2;
+    }
+    if (running && (inner || outer) && !on) {
+        const uint64_t record[KHZ_RECORD_NUMBERS] = {84, none ? KHZ_CODE_NO_SUCH_LANE : inner ? KHZ_CODE_INNER_LANE : KHZ_CODE_OUTER_LANE, lane, active};
+        memcpy(said[n++], record, sizeof record);
+    }
+    if (running && outer && none) {
+        const uint64_t record[KHZ_RECORD_NUMBERS] = {84, KHZ_CODE_INPUT, 7, 0};
+        memcpy(said[n++], record, sizeof record);
+    }
+    return n;
+}
+
+/* Whether each id but those of a TDT and a CDW gives its records behind an IHW with these lanes and a TDH, in DATA_ or in c_DATA_, by a word call and by a
+ * payload call. */
+static bool ids_agree(uint64_t active, bool running, bool continued)
+{
+    static const uint8_t tdh[KHZ_WORD_BYTES] = {1, [9] = 0xE8}, tdt[KHZ_WORD_BYTES] = {[9] = 0xF0};
+    uint8_t ihw[KHZ_WORD_BYTES] = {[9] = 0xE0}, w[KHZ_WORD_BYTES] = {0};
+    uint64_t begun[KHZ_TRACKER_WORDS], records[KHZ_RECORDS_PER_WORD * KHZ_RECORD_NUMBERS], said[KHZ_RECORDS_PER_WORD][KHZ_RECORD_NUMBERS];
+    const size_t room = sizeof records / sizeof *records;
+    bool agree = khz_start(begun, KHZ_TRACKER_WORDS, running, 0, 0, 0) == KHZ_DONE;
+
+    put(ihw, active, 4);
+    for (int page = 0; page <= continued; page++) {
+        agree = agree && khz_packet(begun, KHZ_TRACKER_WORDS, 0, 0, 0, 0, 0, 0, 2) == KHZ_DONE;
+        agree = agree && khz_word(begun, KHZ_TRACKER_WORDS, ihw, sizeof ihw, records, room).refusal == KHZ_DONE;
+        agree = agree && khz_word(begun, KHZ_TRACKER_WORDS, tdh, sizeof tdh, records, room).refusal == KHZ_DONE;
+        if (page < continued)
+            agree = agree && khz_word(begun, KHZ_TRACKER_WORDS, tdt, sizeof tdt, records, room).kind == KHZ_TDT;
+    }
+    for (unsigned id = 0; id < 256; id++) {
+        uint64_t t[KHZ_TRACKER_WORDS], u[KHZ_TRACKER_WORDS];
+        size_t n = said_of_id(id, active, running, said);
+        khz_word_answer a;
+        khz_payload_answer b;
+        if (id == 0xF0 || id == 0xF8)
+            continue;
+        w[9] = (uint8_t)id;
+        memcpy(t, begun, sizeof t);
+        memcpy(u, begun, sizeof u);
+        a = khz_word(t, KHZ_TRACKER_WORDS, w, sizeof w, records, room);
+        agree = agree && a.refusal == KHZ_DONE && a.kind == KHZ_DATA_WORD && a.records == n && memcmp(records, said, n * sizeof *said) == 0;
+        b = khz_payload(u, KHZ_TRACKER_WORDS, w, sizeof w, records, room);
+        agree = agree && b.refusal == KHZ_DONE && b.words == 1 && b.records == n && memcmp(records, said, n * sizeof *said) == 0;
+        agree = agree && memcmp(t, u, sizeof t) == 0;
+    }
+    return agree;
+}
+
+/* With no lane active, with all, with each alone, and with each but one. */
+static void lanes_that_can_not_be(void)
+{
+    const uint64_t all = (UINT64_C(1) << KHZ_LANES) - 1;
+
+    for (int running = 0; running < 2; running++)
+        for (int continued = 0; continued < 2; continued++) {
+            expect(ids_agree(0, running, continued), "with no lane active an id gives other records than it should");
+            expect(ids_agree(all, running, continued), "with all lanes active an id gives other records than it should");
+            for (int lane = 0; lane < KHZ_LANES; lane++) {
+                uint64_t one = UINT64_C(1) << lane;
+                expect(ids_agree(one, running, continued), "with one lane active an id gives other records than it should");
+                expect(ids_agree(all - one, running, continued), "with all lanes but one active an id gives other records than it should");
+            }
+        }
+}
+
 int main(void)
 {
     case_by_words();
@@ -704,6 +783,7 @@ int main(void)
     worst_lane();
     back_in_step();
     pages();
+    lanes_that_can_not_be();
     printf("boundary: %u checks, %u failed\n", checks, failed);
     return failed ? 1 : 0;
 }

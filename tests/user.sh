@@ -154,7 +154,7 @@ try 'a packet of 4,097 words' 2 "$work/refused3" 'more than 4,096 words' "$work/
 # The largest file: 16 + 6 * 24 + 5984 * 10 = 60,000 bytes, six packets of 1,000 words, the last of 984, and every word is nine zeros and 0x47.
 # By 01: the first is taken as an IHW of another id (30, 1), the second as a TDH of another id (40, 1) with no bit set, so that the packet, which
 # is all zeros too, differs in nothing. All that follow stand in the data section: 0x47 is unknown there (991) and no data id (70); its top bits
-# are those of an outer lane, 7 + 0x47 mod 72 = 78, which is not active (1071), and its input, 0x47 mod 8, is 7 (1073).
+# are those of an outer lane, 7 + 0x47 mod 72 = 78, above 27 (1074), and its input, 0x47 mod 8, is 7 (1073).
 {
     printf '06000000 60170000 10000000 A0000000'
     for i in 0 1 2 3 4 5; do printf ' 00000%s0000000000 00000000 00000000 0000 0000 00 02 %s' "$i" "$([ "$i" -eq 5 ] && echo D803 || echo E803)"; done
@@ -169,7 +169,7 @@ awk 'BEGIN {
         at = int(w / 1000) * 65536 + 64 + w % 1000 * 10
         if (w == 0) { print at, 30, 1, 0; n++ }
         else if (w == 1) { print at, 40, 1, 0; n++ }
-        else { print at, 991, 71, 0; print at, 70, 71, 0; print at, 1071, 78, 0; print at, 1073, 7, 0; n += 4 }
+        else { print at, 991, 71, 0; print at, 70, 71, 0; print at, 1074, 78, 0; print at, 1073, 7, 0; n += 4 }
     }
     print "records " n
 }' >"$work/largest.out"

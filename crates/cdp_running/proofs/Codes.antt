@@ -6,7 +6,10 @@ use mathlib.Core.Bool.{Bool, true, false, _||_, true≢false}
 use mathlib.Core.List.{List, [], _∷_}
 use lib.Dec.{eqb}
 use Rattle.words.specs.declared.Word.{Word}
+use Rattle.words.specs.Word.{idOf}
 use Rattle.words.specs.Tdh.{triggerBc}
+use Rattle.words.specs.Lanes.{laneAnswer, isMissing}
+use Rattle.data_ids.specs.DataIds.{innerLane, outerLane}
 use Rattle.payload_fsm.specs.declared.ItsPayloadWord.{ItsPayloadWord}
 use Rattle.payload_fsm.specs.declared.ItsPayloadWord.the-variants as K
 use Rattle.payload_fsm.proofs.Rows.{choice}
@@ -26,8 +29,8 @@ codesAs K.IhwContinuation = 30 ∷ []
 codesAs K.Tdh = 40 ∷ 42 ∷ 444 ∷ 445 ∷ 44 ∷ 1045 ∷ 45 ∷ []
 codesAs K.TdhAfterPacketDone = 40 ∷ 440 ∷ 1045 ∷ 45 ∷ []
 codesAs K.TdhContinuation = 40 ∷ 41 ∷ 441 ∷ 442 ∷ 443 ∷ []
-codesAs K.DataWord = 991 ∷ 81 ∷ 70 ∷ 1072 ∷ 1071 ∷ 1073 ∷ []
-codesAs K.Cdw = 991 ∷ 81 ∷ 70 ∷ 1072 ∷ 1071 ∷ 1073 ∷ []
+codesAs K.DataWord = 991 ∷ 81 ∷ 70 ∷ 1072 ∷ 1071 ∷ 1074 ∷ 1073 ∷ []
+codesAs K.Cdw = 991 ∷ 81 ∷ 70 ∷ 1072 ∷ 1071 ∷ 1074 ∷ 1073 ∷ []
 codesAs K.Tdt = 50 ∷ 59 ∷ []
 codesAs K.Ddw0 = 992 ∷ 60 ∷ 1110 ∷ 1111 ∷ []
 
@@ -38,6 +41,12 @@ In kind code = among code (codesAs kind) ≡ true
 pub not-in : (kind : ItsPayloadWord) (code : ℕ) → among code (codesAs kind) ≡ false → {c : ℕ} → In kind c → c ≡ code → ⊥
 not-in kind code e {c} p q = true≢false (sym p ∙ ap (λ (n : ℕ). among n (codesAs kind)) q ∙ e)
 
+-- A data word and a CDW have the same rows. Those on a lane have 1074 where there is no such lane.
+data-in : (guessed : Bool) (t : Tracker) (w : Word) → Each (λ row. In K.DataWord (row .code)) (rowsAs K.DataWord guessed t w)
+data-in guessed t w =
+    let none : Bool → ℕ → Bool = λ inner lane. isMissing (laneAnswer inner lane (t .ihw .lanes)) in
+    (refl, (refl, (refl, (choice (In K.DataWord) (none true (innerLane (idOf w))) refl refl, (choice (In K.DataWord) (none false (outerLane (idOf w))) refl refl, (refl, tt))))))
+
 pub rows-in : (kind : ItsPayloadWord) (guessed : Bool) (t : Tracker) (w : Word) → Each (λ row. In kind (row .code)) (rowsAs kind guessed t w)
 rows-in K.Ihw guessed t w = (refl, (refl, (refl, (refl, tt))))
 rows-in K.IhwContinuation guessed t w = (refl, tt)
@@ -45,8 +54,8 @@ rows-in K.Tdh guessed t w =
     (refl, (refl, (refl, (refl, (refl, (choice (In K.Tdh) (illegal (t .internal .bc) (triggerBc w)) refl refl, tt))))))
 rows-in K.TdhAfterPacketDone guessed t w = (refl, (refl, (choice (In K.TdhAfterPacketDone) (illegal (t .internal .bc) (triggerBc w)) refl refl, tt)))
 rows-in K.TdhContinuation guessed t w = (refl, (refl, (refl, (refl, (refl, tt)))))
-rows-in K.DataWord guessed t w = (refl, (refl, (refl, (refl, (refl, (refl, tt))))))
-rows-in K.Cdw guessed t w = (refl, (refl, (refl, (refl, (refl, (refl, tt))))))
+rows-in K.DataWord guessed t w = data-in guessed t w
+rows-in K.Cdw guessed t w = data-in guessed t w
 rows-in K.Tdt guessed t w = (refl, (refl, tt))
 rows-in K.Ddw0 guessed t w = (refl, (refl, (refl, (refl, tt))))
 

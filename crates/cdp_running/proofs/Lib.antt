@@ -5,5 +5,6 @@ pub mod Outcome
 pub mod Codes
 pub mod Fine
 pub mod Pages
+pub mod Lanes
 pub mod Unique
 pub mod Replace

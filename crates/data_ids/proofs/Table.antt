@@ -1,9 +1,12 @@
--- A table that is a rule's values, one after the other, has the rule at each entry. That a table of the source is such a list, antt computes.
+-- A table that is a rule's values, one after the other, has the rule at each entry. That a table of the source is such a list, antt computes. So it does
+-- that two tests of an id are the same.
 -- Assumes nothing.
-use mathlib.Core.Path.{_≡_, ap, sym, _∙_}
+use mathlib.Core.Path.{_≡_, refl, ap, sym, _∙_}
+use mathlib.Core.Bool.{Bool, true, false, cond}
 use mathlib.Core.List.{List, [], _∷_}
 use Prim.Native.Nat.{ℕ, zero, suc, _+_, _<_}
 use native.Mathlib.Nat.{add-zero, zero-add, add-suc, suc-add, le-of-suc-le-suc, not-suc-le-zero}
+use lib.Dec.{eqb}
 use lib.ListN.{getD}
 
 -- The rule's values at n numbers from i on.
@@ -22,3 +25,16 @@ entry rule n k h = from rule n 0 k h ∙ ap rule (zero-add k)
 -- Two rules whose values antt computes to the same list agree there.
 pub agree : (one other : ℕ → ℕ) (n : ℕ) → values one n 0 ≡ values other n 0 → (k : ℕ) → k < n → one k ≡ other k
 agree one other n e k h = sym (entry one n k h) ∙ ap (λ (l : List ℕ). getD l k 0) e ∙ entry other n k h
+
+-- A test as a number, and back.
+abbrev digit : Bool → ℕ
+digit b = cond b 1 0
+
+from-digit : (b : Bool) → eqb (digit b) 1 ≡ b
+from-digit true = refl
+from-digit false = refl
+
+-- Two tests that antt computes to agree at each of the 256 ids agree at an id.
+pub same-at-ids : (one other : ℕ → Bool) → values (λ i. digit (one i)) 256 0 ≡ values (λ i. digit (other i)) 256 0 → (id : ℕ) → id < 256 → one id ≡ other id
+same-at-ids one other e id h =
+    sym (from-digit (one id)) ∙ ap (λ (n : ℕ). eqb n 1) (agree (λ i. digit (one i)) (λ i. digit (other i)) 256 e id h) ∙ from-digit (other id)

@@ -2,7 +2,7 @@
 -- Assumes nothing.
 use Prim.Native.Nat.{ℕ, _+_, _/_, _%_}
 use mathlib.Core.Bool.{Bool, cond, _&&_, _||_}
-use lib.Dec.{leb}
+use lib.Dec.{leb, ltb}
 
 abbrev pub within : ℕ → ℕ → ℕ → Bool
 within first last id = leb first id && leb id last
@@ -30,3 +30,10 @@ connector id = id / 8 % 4
 
 abbrev pub laneNumber : ℕ → Bool → ℕ
 laneNumber id inner = cond inner (innerLane id) (outerLane id)
+
+-- The barrel of a data id, and its lane in it: inner ids stand below 0x40.
+abbrev pub isInner : ℕ → Bool
+isInner id = ltb id 0x40
+
+abbrev pub laneOf : ℕ → ℕ
+laneOf id = laneNumber id (isInner id)

@@ -9,7 +9,7 @@ use validators::Packet;
 use validators::Settings;
 
 // How many files there are.
-const FILES: u8 = 57;
+const FILES: u8 = 64;
 
 fn text(bytes: &[u8]) {
     io::write_all(STDOUT_FILENO, bytes);
@@ -58,12 +58,12 @@ fn show_files() {
     }
 }
 
-// A tracker with running checks on, a period, and a packet of a page at position 0 with BC 0 of format 2.
-fn packet_taken(period: u16, page: u16) -> Tracker
+// A tracker with running checks on or off, a period, and a packet of a page at position 0 with BC 0 of format 2.
+fn packet_taken(running: bool, period: u16, page: u16) -> Tracker
     ensures { λ r. ⌜ Good r ⌝ }
 {
     let start = Tracker::start(Settings {
-        running: true,
+        running: running,
         frames: true,
         periodic: true,
         period: period,
@@ -96,7 +96,7 @@ fn refusal(told: Told) -> u64 {
 
 // "4,096th word accepted, 4,097th refused 3": data words in one packet, up to a refusal.
 fn show_full() {
-    let mut t = packet_taken(198, 0);
+    let mut t = packet_taken(true, 198, 0);
     let mut out = [0u64; 24];
     let mut n: u64 = 0;
     while n < 5000 {
@@ -119,7 +119,7 @@ fn show_full() {
 
 // "Counting a word refused with 4": an IHW with a reserved bit, first with no room, then with room for its record.
 fn show_room() {
-    let t = packet_taken(198, 0);
+    let t = packet_taken(true, 198, 0);
     let mut small = [0u64; 3];
     let first = t.word(b"\0\0\0\x10\0\0\0\0\0\xE0", &mut small);
     let told = first.told;
@@ -155,7 +155,7 @@ fn tdh_taken(period: u16, page: u16) -> Tracker
     ensures { λ r. ⌜ Good r ⌝ }
 {
     let mut out = [0u64; 8];
-    let begun = packet_taken(period, page).word(b"\0\0\0\0\0\0\0\0\0\xE0", &mut out);
+    let begun = packet_taken(true, period, page).word(b"\0\0\0\0\0\0\0\0\0\xE0", &mut out);
     let answer = begun.tracker.word(b"\0\x30\0\0\0\0\0\0\0\xE8", &mut out);
     answer.tracker
 }
@@ -205,11 +205,47 @@ fn show_page(page: u16) {
     text(b"page ");
     number(page as u64);
     text(b" start ");
-    number(code_at_ihw(packet_taken(198, page)));
+    number(code_at_ihw(packet_taken(true, 198, page)));
     text(b" three ");
     number(code_at_ihw(three));
     text(b" reset ");
     number(code_at_ihw(three.reset()));
+    text(b"\n");
+}
+
+// The code of a record, or nothing where none was written.
+fn show_code(code: u64) {
+    if code != 0 {
+        text(b" ");
+        number(code);
+    }
+}
+
+// The codes of a word with an id in DATA_, behind an IHW with lanes 8 and 9.
+fn show_codes(running: bool, id: u8) {
+    let mut before = [0u64; 24];
+    let begun = packet_taken(running, 198, 0).word(b"\0\x03\0\0\0\0\0\0\0\xE0", &mut before);
+    let ready = begun.tracker.word(b"\0\x10\0\0\0\0\0\0\0\xE8", &mut before);
+    let mut word = [0u8; 10];
+    word[9] = id;
+    let mut out = [0u64; 24];
+    ready.tracker.word(&word, &mut out);
+    show_code(out[1]);
+    show_code(out[5]);
+    show_code(out[9]);
+    show_code(out[13]);
+    show_code(out[17]);
+    show_code(out[21]);
+}
+
+// What is said of a lane is said with running checks alone: the codes of an id without them and with them.
+fn show_lane(id: u8) {
+    text(b"id ");
+    number(id as u64);
+    text(b" off");
+    show_codes(false, id);
+    text(b" on");
+    show_codes(true, id);
     text(b"\n");
 }
 
@@ -220,4 +256,8 @@ fn main() {
     show_period();
     show_page(0);
     show_page(1);
+    show_lane(0x21);
+    show_lane(0x28);
+    show_lane(0x29);
+    show_lane(0x47);
 }

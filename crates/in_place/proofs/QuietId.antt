@@ -4,25 +4,27 @@ use Prim.Native.Nat.{ℕ, _+_, _-_, _*_, _/_, _%_, _<_, _^_}
 use mathlib.Core.Path.{_≡_, refl, sym, ap, _∙_}
 use mathlib.Core.Bool.{Bool, true, false, cond, not, _&&_, _||_, and-false, true≢false}
 use mathlib.Core.List.{List, []}
-use borrow.Author.Tests.{ne-eqb, eqb-true}
+use borrow.Author.Tests.{ne-eqb, eqb-true, le-ltb}
 use lib.Dec.{ltb, eqb}
 use lib.ListN.{length}
 use Rattle.words.specs.declared.Word.{Word}
 use Rattle.words.specs.Word.{wordOf, idOf}
-use Rattle.data_ids.specs.DataIds.{isDataId, innerLane, outerLane, inputNumber}
-use Rattle.words.specs.Lanes.{isLaneActive}
+use Rattle.data_ids.specs.DataIds.{isDataId, innerLane, outerLane, inputNumber, isInner, laneOf}
+use Rattle.words.specs.Lanes.{isLaneActive, laneAnswer, isActive}
 use Rattle.words.proofs.Bits.{bits-below}
 use Rattle.words.proofs.Tests.{both}
-use Rattle.data_ids.proofs.Table.{values, agree}
+use Rattle.data_ids.proofs.Table.{same-at-ids}
 use Rattle.payload_fsm.specs.declared.State.{State}
 use Rattle.payload_fsm.specs.declared.State.the-variants as S
 use Rattle.payload_fsm.specs.declared.ItsPayloadWord.the-variants as K
 use Rattle.payload_fsm.specs.declared.Advanced.{Advanced}
-use Rattle.payload_fsm.specs.Step.{taken, advanceOf}
+use Rattle.payload_fsm.specs.Step.{amongData, taken, advanceOf}
+use Rattle.payload_fsm.proofs.States.{in-data}
 use Rattle.records.specs.Records.{anyOn, silent}
 use Rattle.validators.specs.declared.Settings.{Settings}
 use Rattle.validators.specs.declared.StoredCdw.{StoredCdw}
 use Rattle.validators.specs.DataWords.{firstCdw, dataRows}
+use Rattle.validators.proofs.Lanes.{data-lane}
 use Rattle.stored.specs.declared.FrameTold.the-variants as F
 use Rattle.stored.specs.Stored.{frameTold, lanesTold}
 use Rattle.cdp_running.specs.declared.Tracker.{Tracker}
@@ -31,20 +33,7 @@ use Rattle.cdp_running.specs.Next.{nextOf}
 use Rattle.cdp_running.specs.Word.{Outcome, taken as taken-as, takenAs, positionNow, rowsOf, wordCall}
 use Rattle.payload.proofs.Run.{silent-call}
 use Rattle.tracker_array.specs.Read.{stateOf}
-use Rattle.in_place.specs.Quiet.{laneOf, quietId, checkedLanes, amongData}
-
--- A test as a number, and back.
-abbrev digit : Bool → ℕ
-digit b = cond b 1 0
-
-from-digit : (b : Bool) → eqb (digit b) 1 ≡ b
-from-digit true = refl
-from-digit false = refl
-
--- Two tests that antt computes to agree at each of the 256 ids agree at an id.
-pub same-at-ids : (one other : ℕ → Bool) → values (λ i. digit (one i)) 256 0 ≡ values (λ i. digit (other i)) 256 0 → (id : ℕ) → id < 256 → one id ≡ other id
-same-at-ids one other e id h =
-    sym (from-digit (one id)) ∙ ap (λ (n : ℕ). eqb n 1) (agree (λ i. digit (one i)) (λ i. digit (other i)) 256 e id h) ∙ from-digit (other id)
+use Rattle.in_place.specs.Quiet.{quietId, checkedLanes}
 
 -- DATA_ and c_DATA_ are the states 2 and 3.
 pub among-data : (n : ℕ) → (eqb n 2 || eqb n 3) ≡ amongData (stateOf n)
@@ -64,9 +53,9 @@ among-data n = at (eqb n 0) (eqb n 1) (eqb n 2) (eqb n 3) (eqb n 4) (eqb n 5) re
     at false false false false false false p q r s = refl
 
 -- Of the three rows on lanes and inputs, a data id leaves the one on its own lane.
-one-lane : (bad : ℕ → Bool) (id : ℕ) → id < 256
-    → (isDataId id && ((eqb (id / 32) 1 && bad (innerLane id)) || ((eqb (id / 32) 2 && bad (outerLane id)) || ((eqb (id / 32) 2 && ltb 6 (inputNumber id)) || false))))
-    ≡ (isDataId id && (bad (laneOf id) || false))
+one-lane : (bad : Bool → ℕ → Bool) (id : ℕ) → id < 256
+    → (isDataId id && ((eqb (id / 32) 1 && bad true (innerLane id)) || ((eqb (id / 32) 2 && bad false (outerLane id)) || ((eqb (id / 32) 2 && ltb 6 (inputNumber id)) || false))))
+    ≡ (isDataId id && (bad (isInner id) (laneOf id) || false))
 one-lane bad = same-at-ids _ _ refl
 
 -- A quiet id is a data id, and its lane is active.
@@ -79,18 +68,12 @@ other id k d e = ne-eqb id k (λ q. true≢false (sym d ∙ ap isDataId q ∙ e)
 
 module _ (w : Word) (data-id : isDataId (idOf w) ≡ true) where
   pub as-data : (state : State) → amongData state ≡ true → advanceOf state w ≡ taken K.DataWord state
-  as-data S.Ihw e = absurd (true≢false (sym e))
-  as-data S.Tdh e = absurd (true≢false (sym e))
-  as-data S.Data e = simp (other (idOf w) 0xF0 data-id refl, other (idOf w) 0xF8 data-id refl, data-id)
-  as-data S.CData e = simp (other (idOf w) 0xF0 data-id refl, other (idOf w) 0xF8 data-id refl, data-id)
-  as-data S.Three e = absurd (true≢false (sym e))
-  as-data S.CIhw e = absurd (true≢false (sym e))
-  as-data S.CTdh e = absurd (true≢false (sym e))
+  as-data state e = in-data state w e ∙ simp (other (idOf w) 0xF0 data-id refl, other (idOf w) 0xF8 data-id refl, data-id)
 
   no-cdw : (seen : Bool) → firstCdw seen w ≡ false
   no-cdw seen = rw (other (idOf w) 0xF8 data-id refl) (and-false (not seen))
 
--- A quiet data word gives no record: its id leaves the row on its own lane, which is active.
+-- A quiet data word gives no record: its id leaves the row on its own lane, which there is, and which is active.
 pub rows-silent : (s : Settings) (seen : Bool) (lanes : ℕ) (stored : StoredCdw) (w : Word) → quietId (checkedLanes (s .running) lanes) (idOf w) ≡ true
     → silent (dataRows s seen lanes stored false w) ≡ true
 unfolding anyOn
@@ -103,7 +86,9 @@ rows-silent s seen lanes stored w q = at (s .running) refl
     at false e = simp (e, no-cdw w is-data seen, is-data)
     at true e =
         let lane = quiet-is lanes (idOf w) (simp e at q) .1 in
-        let rows = simp (is-data, lane) at (one-lane (λ n. not (isLaneActive n lanes)) (idOf w) (bits-below 79 72 w)) in
+        let bound = bits-below 79 72 w in
+        let there = le-ltb _ _ (data-lane (idOf w) bound is-data) in
+        let rows = simp (is-data, lane, there) at (one-lane (λ inner n. not (isActive (laneAnswer inner n lanes))) (idOf w) bound) in
         simp (e, no-cdw w is-data seen, is-data) (ap not rows)
 
 -- The tracker after n such words.

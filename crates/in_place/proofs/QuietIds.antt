@@ -10,8 +10,8 @@ use lib.Pow.{split, shr-shr, pow-pos}
 use borrow.Author.Tests.{eqb-true, eqb-false, ltb-true, ltb-false, lt-ltb, le-ltb}
 use Rattle.words.specs.Word.{slice}
 use Rattle.words.proofs.Bits.{low-part, high-part}
+use Rattle.data_ids.proofs.Table.{same-at-ids}
 use Rattle.in_place.specs.Quiet.{quietId, hasId, QuietIds}
-use Rattle.in_place.proofs.QuietId.{same-at-ids}
 
 -- One bit of a number.
 abbrev bit : ℕ → ℕ → ℕ

@@ -12,11 +12,12 @@ use borrow.Author.Tests.{eq-eqb, ne-eqb}
 use lib.Seq.{length-take-le, drop-drop}
 use Rattle.words.specs.Word.{idOf, wordOf}
 use Rattle.words.proofs.Load.{id-at}
+use Rattle.payload_fsm.specs.Step.{amongData}
 use Rattle.cdp_running.specs.declared.Tracker.{Tracker}
 use Rattle.cdp_running.specs.Tracker.{Good, maxWords}
 use Rattle.payload.specs.Payload.{Run, preceded, wordsFrom}
 use Rattle.tracker_array.specs.Read.{place}
-use Rattle.in_place.specs.Quiet.{quietId, checkedLanes, amongData, idAt, QuietTo, Passed}
+use Rattle.in_place.specs.Quiet.{quietId, checkedLanes, idAt, QuietTo, Passed}
 use Rattle.in_place.proofs.QuietId.{quietNext, quiet-silent, quiet-next}
 use Rattle.payload.proofs.Run.{preceded-twice, silent-step}
 

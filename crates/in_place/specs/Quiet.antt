@@ -7,16 +7,11 @@ use mathlib.Core.List.{List}
 use lib.Dec.{leb, ltb, eqb}
 use lib.ListN.{length, getD, set}
 use Rattle.words.specs.Word.{wordBytes}
-use Rattle.data_ids.specs.DataIds.{isDataId, innerLane, outerLane}
+use Rattle.data_ids.specs.DataIds.{isDataId, laneOf}
 use Rattle.words.specs.Lanes.{isLaneActive}
-use Rattle.payload_fsm.specs.declared.State.{State}
-use Rattle.payload_fsm.specs.declared.State.the-variants as S
+use Rattle.payload_fsm.specs.Step.{amongData}
 use Rattle.cdp_running.specs.Tracker.{maxWords}
 use Rattle.tracker_array.specs.Read.{place, isOn, trackerIn}
-
--- The lane of a data id.
-abbrev pub laneOf : ℕ → ℕ
-laneOf id = cond (ltb id 0x40) (innerLane id) (outerLane id)
 
 abbrev pub quietId : ℕ → ℕ → Bool
 quietId lanes id = isDataId id && isLaneActive (laneOf id) lanes
@@ -24,16 +19,6 @@ quietId lanes id = isDataId id && isLaneActive (laneOf id) lanes
 -- The lanes that need not be asked: all, without running checks.
 abbrev pub checkedLanes : Bool → ℕ → ℕ
 checkedLanes running lanes = cond running lanes (2 ^ 28 - 1)
-
--- DATA_ and c_DATA_.
-abbrev pub amongData : State → Bool
-amongData S.Ihw = false
-amongData S.Tdh = false
-amongData S.Data = true
-amongData S.CData = true
-amongData S.Three = false
-amongData S.CIhw = false
-amongData S.CTdh = false
 
 -- Ids from 32 to 95 as the bits of one number: bit i stands for the id whose remainder by 64 is i.
 abbrev pub hasId : ℕ → ℕ → Bool

@@ -1,4 +1,4 @@
--- The states in which a word is taken as kind IHW: the start state and the three-way state.
+-- The states in which a word is taken as kind IHW: the start state and the three-way state. The two in which words are taken as data.
 -- Assumes nothing.
 use mathlib.Core.Path.{_≡_, refl, sym, ap, _∙_}
 use mathlib.Core.Bool.{Bool, true, false, true≢false}
@@ -8,7 +8,7 @@ use Rattle.payload_fsm.specs.declared.State.the-variants as S
 use Rattle.payload_fsm.specs.declared.ItsPayloadWord.{ItsPayloadWord}
 use Rattle.payload_fsm.specs.declared.ItsPayloadWord.the-variants as K
 use Rattle.payload_fsm.specs.declared.Advanced.{Advanced}
-use Rattle.payload_fsm.specs.Step.{isThree, advanceOf}
+use Rattle.payload_fsm.specs.Step.{isThree, amongData, inData, advanceOf}
 use Rattle.payload_fsm.proofs.Rows.{data-rows}
 
 pub three-is : (state : State) → isThree state ≡ true → state ≡ S.Three
@@ -44,3 +44,13 @@ start-or-three S.CData w e n = absurd (true≢false (sym (ap isInitial e) ∙ da
 start-or-three S.Three w e n = absurd (true≢false n)
 start-or-three S.CIhw w e n = absurd (true≢false (sym (ap isInitial e)))
 start-or-three S.CTdh w e n = absurd (true≢false (sym (ap isInitial e)))
+
+-- DATA_ and c_DATA_ have the same rows.
+pub in-data : (state : State) (w : Word) → amongData state ≡ true → advanceOf state w ≡ inData state w
+in-data S.Ihw w e = absurd (true≢false (sym e))
+in-data S.Tdh w e = absurd (true≢false (sym e))
+in-data S.Data w e = refl
+in-data S.CData w e = refl
+in-data S.Three w e = absurd (true≢false (sym e))
+in-data S.CIhw w e = absurd (true≢false (sym e))
+in-data S.CTdh w e = absurd (true≢false (sym e))

@@ -69,6 +69,16 @@ isThree S.Three = true
 isThree S.CIhw = false
 isThree S.CTdh = false
 
+-- Whether a state is DATA_ or c_DATA_.
+abbrev pub amongData : State → Bool
+amongData S.Ihw = false
+amongData S.Tdh = false
+amongData S.Data = true
+amongData S.CData = true
+amongData S.Three = false
+amongData S.CIhw = false
+amongData S.CTdh = false
+
 -- The state after a word.
 abbrev pub nextState : State → Word → State
 nextState state w = advanceOf state w .fsm .state

@@ -1,7 +1,7 @@
 // The records of a data word or CDW. 01, "Records": data word or CDW kind.
 ghost use mathlib.Core.Path.{_≡_};
 ghost use Rattle.records.specs.Records.{padded};
-ghost use Rattle.validators.specs.DataWords.{firstCdw, dataRows};
+ghost use Rattle.validators.specs.DataWords.{firstCdw, laneRow, dataRows};
 use crate::Settings;
 use crate::StoredCdw;
 use data_ids::ib_data_word_id_to_lane;
@@ -10,10 +10,11 @@ use data_ids::ob_data_word_id_to_input_number_connector;
 use data_ids::ob_data_word_id_to_lane;
 use records::MOST;
 use records::Row;
+use records::pick;
 use records::when;
 use words::Word;
 use words::cdw::Cdw;
-use words::util::is_lane_active;
+use words::util::lane_answer;
 
 // A CDW as the first data of a packet.
 pub fn is_first_cdw(seen: bool, word: Word) -> bool
@@ -21,6 +22,21 @@ pub fn is_first_cdw(seen: bool, word: Word) -> bool
 {
     let id = word.id();
     !seen & (id == Cdw::ID)
+}
+
+// The row on the lane of an inner or an outer word: the lane is not active, or there is no such lane.
+fn lane_row(asked: bool, code: u64, inner: bool, lane: u8, lanes: u32) -> Row
+    ensures { λ r. ⌜ r ≡ laneRow asked code inner lane lanes ⌝ }
+{
+    let answer = lane_answer(inner, lane, lanes);
+    let active = answer.is_active();
+    let missing = answer.is_missing();
+    when(
+        asked & !active,
+        pick(missing, 1074, code),
+        lane as u64,
+        lanes as u64,
+    )
 }
 
 // Kinds data word and CDW, guessed or not, with the active lanes and the CDW stored before.
@@ -43,8 +59,6 @@ pub fn check(
     let inner = ib_data_word_id_to_lane(id);
     let outer = ob_data_word_id_to_lane(id);
     let input = ob_data_word_id_to_input_number_connector(id);
-    let inner_on = is_lane_active(inner, lanes);
-    let outer_on = is_lane_active(outer, lanes);
     let laned = settings.running & !first;
     [
         when(guessed, 991, id as u64, 0),
@@ -55,18 +69,8 @@ pub fn check(
             0,
         ),
         when(!first & !known, 70, id as u64, 0),
-        when(
-            laned & ((id / 32 == 1) & !inner_on),
-            1072,
-            inner as u64,
-            lanes as u64,
-        ),
-        when(
-            laned & ((id / 32 == 2) & !outer_on),
-            1071,
-            outer as u64,
-            lanes as u64,
-        ),
+        lane_row(laned & (id / 32 == 1), 1072, true, inner, lanes),
+        lane_row(laned & (id / 32 == 2), 1071, false, outer, lanes),
         when(
             laned & ((id / 32 == 2) & (input > 6)),
             1073,
