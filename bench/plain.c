@@ -107,11 +107,6 @@ HOT unsigned outer_lane(unsigned id)
     return id <= 0x46 ? id % 64 : id <= 0x4E ? 7 + id % 72 : id <= 0x56 ? 14 + id % 80 : 21 + id % 88;
 }
 
-HOT bool is_active(uint64_t lanes, unsigned lane)
-{
-    return lane <= 27 && (lanes >> lane & 1);
-}
-
 HOT unsigned ones(uint64_t lanes)
 {
     unsigned n = 0;
@@ -262,6 +257,15 @@ HOT bool take_ddw0(uint64_t *t, word w, record_list *r, buffer *b, khz_word_answ
     return true;
 }
 
+/* What is said of a lane that is not active; of one above the last that there is none such. */
+HOT void say_lane(record_list *r, unsigned code, unsigned lane, unsigned last, uint64_t lanes)
+{
+    if (lane > last)
+        say(r, 1074, lane, lanes);
+    else if (!(lanes >> lane & 1))
+        say(r, code, lane, lanes);
+}
+
 /* A word in DATA_ that is no TDT. The state stays. */
 HOT bool take_data(uint64_t *t, word w, record_list *r, buffer *b, khz_word_answer *a)
 {
@@ -278,13 +282,10 @@ HOT bool take_data(uint64_t *t, word w, record_list *r, buffer *b, khz_word_answ
         if (!known)
             say(r, 70, w.id, 0);
         if (t[RUNNING] && w.id >> 5 == 1) {
-            unsigned lane = w.id % 32;
-            if (!is_active(t[LANES], lane))
-                say(r, 1072, lane, t[LANES]);
+            say_lane(r, 1072, w.id % 32, 8, t[LANES]);
         } else if (t[RUNNING] && w.id >> 5 == 2) {
-            unsigned lane = outer_lane(w.id), input = w.id % 8;
-            if (!is_active(t[LANES], lane))
-                say(r, 1071, lane, t[LANES]);
+            unsigned input = w.id % 8;
+            say_lane(r, 1071, outer_lane(w.id), 27, t[LANES]);
             if (input > 6)
                 say(r, 1073, input, 0);
         }

@@ -124,7 +124,7 @@ static void damage(stream *s, unsigned per_1000)
         switch (w[9]) {
         case 0xE8: w[3] |= 0x10; break;                        /* a reserved bit: 40 */
         case 0xE0: case 0xE4: case 0xF0: w[7] |= 0x01; break;  /* a reserved bit: 30, 60, 50 */
-        default: w[9] = 0x2A;                                  /* no data id: 991, 70, 1072 */
+        default: w[9] = 0x2A;                                  /* no data id: 991, 70, 1074 */
         }
     }
 }

@@ -7,11 +7,12 @@ word has ten bytes and stands in a packet that is not full (docs/DIFFERENCES.md,
     E990             an id that is unknown in the three-way state, which a TDH with no data entered. From here on the two sides are in
                      different states, until the next start.
     BC above 3563    an interval that has such a BC at one of its ends
-    lanes above 27   a data word with running checks whose outer lane is 32 or more, where the IHW switches on that lane mod 32: the
-                     release build tests lane mod 32
+    no such lane     a word in the data section, with running checks, whose inner lane is above 8 or whose outer lane is above 27: 1074
+                     (document 02, ticket 4). The Rust tests bit lane mod 32 of the active lanes, as its release build does, and gives 1072
+                     or 1071 where it is clear
 """
-E990, HIGH_BC, HIGH_LANE = 'E990', 'BC above 3563', 'lanes above 27'
-CLASSES = (E990, HIGH_BC, HIGH_LANE)
+E990, HIGH_BC, NO_LANE = 'E990', 'BC above 3563', 'no such lane'
+CLASSES = (E990, HIGH_BC, NO_LANE)
 LAST_BC = 3563
 
 
@@ -26,7 +27,7 @@ def outer_lane(id):
 
 
 class Difference:
-    """What each side must answer. `ours` and `rust` are whole answers, or records that stand in one answer alone (or None)."""
+    """What each side must answer. `ours` and `rust` are whole answers; of HIGH_BC they are records that stand in one answer alone (or None)."""
 
     def __init__(self, kind, ours, rust):
         self.kind, self.ours, self.rust = kind, ours, rust
@@ -59,10 +60,8 @@ class Model:
                 done = int(text[17], 16) & 1
                 self.state, self.by_no_data = ('THREE', False) if done else ('c_IHW_', False)
                 self.open = self.open and not done
-            elif self.running and id >> 5 == 2 and outer_lane(id) >= 32:
-                lane = outer_lane(id)
-                if self.lanes >> lane % 32 & 1:
-                    return Difference(HIGH_LANE, '%d 1071 %d %d' % (place, lane, self.lanes), None)
+            elif self.running and id >> 5 in (1, 2):
+                return self.on_lane(place, id)
             return None
         if state == 'IHW_' or state == 'c_IHW_' or state == 'THREE' and id == 0xE0:
             self.lanes = int.from_bytes(bytes.fromhex(text[:8]), 'little') & 0xFFFFFFF
@@ -95,6 +94,16 @@ class Model:
         rust = None if found == self.period else '%d 45 %d %d' % (place, found, self.period)
         return Difference(HIGH_BC, '%d 1045 %d %d' % (place, previous, bc), rust)
 
+    def on_lane(self, place, id):
+        """A word with the id of an inner or an outer lane. Where there is no such lane, the id is no data id, and that of an outer one has input 7."""
+        code, lane, last = (1072, id % 32, 8) if id >> 5 == 1 else (1071, outer_lane(id), 27)
+        if lane <= last:
+            return None
+        before = 'DataWord 1 - ; %d 991 %d 0 ; %d 70 %d 0' % (place, id, place, id)
+        after = ' ; %d 1073 7 0' % place if code == 1071 else ''
+        rust = '' if self.lanes >> lane % 32 & 1 else ' ; %d %d %d %d' % (place, code, lane, self.lanes)
+        return Difference(NO_LANE, before + ' ; %d 1074 %d %d' % (place, lane, self.lanes) + after, before + rust + after)
+
     def e990(self, place, id, continuation):
         ours = 'DDW0 1 - ; %d 992 %d 0 ; %d 60 1 0' % (place, id, place)
         if self.running and self.stop != 1:
@@ -107,14 +116,14 @@ class Model:
 
 def as_said(difference, ours, rust):
     """Do the two answers differ in what the model says, and in nothing else?"""
-    if difference.kind == E990:
+    if difference.kind != HIGH_BC:
         return ours == difference.ours and rust == difference.rust
     ours, rust = ours.split(' ; '), rust.split(' ; ')
     for answer, record in ((ours, difference.ours), (rust, difference.rust)):
         if record is not None:
             if answer.count(record) != 1:
                 return False
-            if difference.kind == HIGH_BC and answer[-1] != record:  # the interval is the last check of a TDH
+            if answer[-1] != record:  # the interval is the last check of a TDH
                 return False
             answer.remove(record)
     return ours == rust

@@ -3,8 +3,9 @@
 
     record.py [--check] [--build DIR] [DIR]        DIR: default crates/vectors/data
 
-Sequences that show a difference of docs/DIFFERENCES.md, by model.py, are left out. --check writes nothing and says whether the files in
-DIR are what would be written. Without the Rust's text or cargo nothing is done, and the last line says so.
+Sequences that show a difference of docs/DIFFERENCES.md, by model.py, are left out, but for 3: where there is no such lane, the Rust must answer as model.py
+says, and what is recorded is the 1074 that model.py says of us. --check writes nothing and says whether the files in DIR are what would be written. Without
+the Rust's text or cargo nothing is done, and the last line says so.
 
 A file is a list of calls, numbers little-endian:
 
@@ -27,17 +28,18 @@ import model
 
 SEED = 2024
 KINDS = ['', 'IHW', 'IHW_continuation', 'TDH', 'TDH_after_packet_done', 'TDH_continuation', 'DataWord', 'CDW', 'TDT', 'DDW0']
-# the codes that the given text decides, but for 990, which 01 rules out; the recorded answers have all of them
-CODES = {40, 41, 42, 44, 45, 59, 70, 81, 440, 441, 442, 443, 444, 445, 991, 992}
+# the codes that the given text decides, but for 990, which 01 rules out, and 1074, which stands in the place of what it says; the recorded answers have all
+# of them
+CODES = {40, 41, 42, 44, 45, 59, 70, 81, 440, 441, 442, 443, 444, 445, 991, 992, 1074}
 MOST_CALLS = 65536  # of a file; vectors goes no further
 
 
 class Shown(Exception):
-    """The sequence shows a difference."""
+    """The sequence shows a difference that is not recorded."""
 
 
-def follow(calls):
-    """The model behind the calls of a sequence."""
+def follow(calls, differences=None):
+    """The model behind the calls of a sequence. `differences`: gets what it says of each word."""
     m = model.Model()
     for call in calls:
         if call[0] == 'S':
@@ -47,8 +49,12 @@ def follow(calls):
             m.packet(call[1], call[5], call[6], call[7])
         elif call[0] == 'R':
             m.reset()
-        elif m.word(call[1].to_bytes(10, 'little').hex()) is not None:
-            raise Shown
+        else:
+            said = m.word(call[1].to_bytes(10, 'little').hex())
+            if said is not None and said.kind != model.NO_LANE:
+                raise Shown
+            if differences is not None:
+                differences.append(said)
     return m
 
 
@@ -182,7 +188,7 @@ def call_bytes(call):
 
 
 def answer_bytes(answer, codes):
-    """What the Rust said to a word."""
+    """An answer to a word."""
     parts = answer.split(' ; ')
     kind, guessed, frame = parts[0].split(' ')
     out = bytes([KINDS.index(kind), int(guessed), {'-': 0, 'O': 1}.get(frame, 2), len(parts) - 1])
@@ -195,6 +201,15 @@ def answer_bytes(answer, codes):
     return out
 
 
+def recorded_answer(said, rust):
+    """What is recorded of a word to which the Rust said this."""
+    if said is None:
+        return rust
+    if rust != said.rust:
+        raise compare.Failed('where there is no such lane the Rust answers %s, not %s' % (rust, said.rust))
+    return said.ours
+
+
 def record(driver, codes):
     """Each file's name, bytes, sequences and words."""
     c = generate.Chance(SEED)
@@ -203,9 +218,15 @@ def record(driver, codes):
         calls = [call for s in sequences for call in s]
         asked = ''.join(generate.line(call) + '\n' for call in calls)
         answers = iter(subprocess.run([driver], input=asked, text=True, stdout=subprocess.PIPE, check=True).stdout.splitlines())
-        out = b''
+        differences = []
+        for sequence in sequences:
+            follow(sequence, differences)
+        said, out = iter(differences), b''
         for call in calls:
-            out += b'\3' + call[1].to_bytes(10, 'little') + answer_bytes(next(answers), codes) if call[0] == 'W' else call_bytes(call)
+            if call[0] == 'W':
+                out += b'\3' + call[1].to_bytes(10, 'little') + answer_bytes(recorded_answer(next(said), next(answers)), codes)
+            else:
+                out += call_bytes(call)
         if next(answers, None) is not None or len(calls) > MOST_CALLS:
             raise compare.Failed('%s: more answers than words, or too many calls' % name)
         yield name, out, len(sequences), words_in(calls)

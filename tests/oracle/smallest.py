@@ -22,8 +22,8 @@ import model
 HERE = os.path.dirname(os.path.abspath(__file__))
 ROOT = os.path.dirname(os.path.dirname(HERE))
 DOCUMENT = os.path.join(ROOT, 'docs', 'DIFFERENCES.md')
-FIELDS = {'S': 4, 'P': 8, 'W': 2, 'R': 1, 'Y': 2, 'ACTIVE': 3, 'CONTINUATION': 4, 'AFTER_PACKET_DONE': 4}
-QUESTIONS = {'ACTIVE': 1, 'CONTINUATION': 2, 'AFTER_PACKET_DONE': 3}  # single functions, by their numbers in single.rattle
+FIELDS = {'S': 4, 'P': 8, 'W': 2, 'R': 1, 'Y': 2, 'ACTIVE': 3, 'LANE': 4, 'CONTINUATION': 4, 'AFTER_PACKET_DONE': 4}
+QUESTIONS = {'ACTIVE': 1, 'CONTINUATION': 2, 'AFTER_PACKET_DONE': 3, 'LANE': 4}  # single functions, by their numbers in single.rattle
 SIDES = {'we': ['we'], 'release': ['release'], 'debug': ['debug'], 'rust': ['release', 'debug']}
 EVERY = ['we', 'release', 'debug']
 
@@ -134,6 +134,8 @@ def question(call):
     f = call.fields
     if call.name == 'ACTIVE':
         return bytes([1, int(f[1])]) + int(f[2]).to_bytes(20, 'little')
+    if call.name == 'LANE':
+        return bytes([4, int(f[2])]) + int(f[3]).to_bytes(10, 'little') + int(f[1]).to_bytes(10, 'little')
     return bytes([QUESTIONS[call.name], int(f[1])]) + bytes.fromhex(f[2]) + bytes.fromhex(f[3])
 
 

@@ -237,6 +237,11 @@ fn main() {
                 let (lane, active): (u8, u32) = (f[1].parse().unwrap(), f[2].parse().unwrap());
                 single(&mut out, || (is_lane_active(lane, active) as u8).to_string())
             }
+            "LANE" => {
+                // the Rust asks no barrel; its two answers as numbers of ours: 0 active, 1 not active
+                let (lane, active): (u8, u32) = (f[2].parse().unwrap(), f[3].parse().unwrap());
+                single(&mut out, || (!is_lane_active(lane, active) as u8).to_string())
+            }
             "CONTINUATION" => {
                 let (previous, tdh) = tdhs(&f);
                 single(&mut out, || codes(TdhValidator::check_continuation(&tdh, previous.as_ref()).err().unwrap_or_default()))
