@@ -76,6 +76,21 @@ bytes left over at the end: $(($(wc -c <"$work/in") - 10))
 END
 done
 
+# the last inner lane, two that can't be, and the last outer lanes of a connector with the one behind each
+hex 000000000000000000E0 000000000000000000E8 00000000000000000028 00000000000000000029 0000000000000000003F \
+    00000000000000000046 00000000000000000047 0000000000000000005E 0000000000000000005F
+try "lanes that can't be" <<'END'
+id 224 IHW active_lanes 0 lanes_on 0
+id 232 TDH trigger_type 0 internal_trigger 0 no_data 0 continuation 0 trigger_bc 0 trigger_orbit 0
+id 40 data word lane 8
+id 41 data word lane 9, no such lane, a guess
+id 63 data word lane 31, no such lane, a guess
+id 70 data word lane 6
+id 71 data word lane 78, no such lane, a guess
+id 94 data word lane 27
+id 95 data word lane 28, no such lane, a guess
+END
+
 # zeros: an IHW and a TDH by their place, then data words by a guess, all with the id 0
 many() { # WORDS
     echo 'id 0 IHW active_lanes 0 lanes_on 0, by its place: its id is 0x00, not 0xE0'

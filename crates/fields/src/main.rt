@@ -11,6 +11,7 @@ use words::ddw::Ddw0;
 use words::ihw::Ihw;
 use words::tdh::Tdh;
 use words::tdt::Tdt;
+use words::util::lane_answer;
 
 // The bytes of the most words that are shown: a packet's 4,096.
 const MOST_BYTES: usize = 40960;
@@ -75,14 +76,23 @@ fn show_cdw(word: Word) {
     );
 }
 
+// The lane that an id names, and where there is no such lane, that. With which lanes are active that has nothing to do.
+fn show_lane(inner: bool, lane: u8) {
+    field(b"lane", lane as u64);
+    let answer = lane_answer(inner, lane, 0);
+    if answer.is_missing() {
+        text(b", no such lane");
+    }
+}
+
 fn show_data_word(word: Word) {
     let id = word.id();
     text(b" data word");
     if id / 32 == 1 {
-        field(b"lane", data_ids::ib_data_word_id_to_lane(id) as u64);
+        show_lane(true, data_ids::ib_data_word_id_to_lane(id));
     }
     if id / 32 == 2 {
-        field(b"lane", data_ids::ob_data_word_id_to_lane(id) as u64);
+        show_lane(false, data_ids::ob_data_word_id_to_lane(id));
     }
 }
 
