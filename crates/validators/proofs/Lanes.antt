@@ -11,12 +11,11 @@ use borrow.Author.Tests.{ltb-true, ltb-false, eqb-true, eqb-false, ne-eqb, not-f
 use Rattle.words.specs.declared.Word.{Word}
 use Rattle.words.specs.declared.util.LaneAnswer.the-variants as L
 use Rattle.words.specs.Word.{idOf}
-use Rattle.words.specs.Lanes.{isLaneActive, lastLane, laneAnswer, isActive}
+use Rattle.words.specs.Lanes.{isLaneActive, lastLane, isActive}
 use Rattle.words.proofs.Bits.{bits-below}
 use Rattle.words.proofs.Tests.{both}
 use Rattle.data_ids.specs.DataIds.{isDataId, innerLane, outerLane, inputNumber, laneNumber, isInner, laneOf}
 use Rattle.data_ids.proofs.Table.{same-at-ids}
-use Rattle.records.specs.declared.Row.{Row}
 use Rattle.records.specs.Records.{Record, Each, given, recordAt, when}
 use Rattle.validators.specs.declared.Settings.{Settings}
 use Rattle.validators.specs.declared.StoredCdw.{StoredCdw}

@@ -8,7 +8,7 @@ use mathlib.Core.Bool.{Bool, true, false, cond, not, _&&_}
 use mathlib.Core.List.{List, [], _∷_}
 use lib.Dec.{ltb, eqb}
 use Rattle.words.specs.declared.Word.{Word}
-use Rattle.words.specs.Word.{idOf, slice}
+use Rattle.words.specs.Word.{idOf}
 use Rattle.words.specs.Cdw.{cdwId, userFields, wordIndex}
 use Rattle.data_ids.specs.DataIds.{isDataId, innerLane, outerLane, inputNumber}
 use Rattle.words.specs.declared.util.LaneAnswer.{LaneAnswer}
