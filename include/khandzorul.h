@@ -133,7 +133,7 @@ enum khz_code {
     KHZ_CODE_OUTER_LANE = 1071,                  /* R: an outer lane sent data, and the IHW has not switched it on */
     KHZ_CODE_INNER_LANE = 1072,                  /* R: an inner lane sent data, and the IHW has not switched it on */
     KHZ_CODE_INPUT = 1073,                       /* R: the input number of an outer lane is above 6 */
-    KHZ_CODE_NO_SUCH_LANE = 1074,                /* R: the lane of the id is above 8, inner, or above 27, outer: it has no cable, the id is damaged */
+    KHZ_CODE_NO_SUCH_LANE = 1074,                /* R: the id names an inner lane above 8 or an outer one above 27: no cable, the id is damaged */
     KHZ_CODE_DDW0_STOP = 1110,                   /* R: a DDW0 stands in a packet whose stop is not 1 */
     KHZ_CODE_DDW0_PAGE = 1111,                   /* R: a DDW0 stands on page 0 */
     KHZ_CODE_IHW_STOP = 1120,                    /* R: an IHW stands in a packet whose stop is not 0 */

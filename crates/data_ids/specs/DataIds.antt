@@ -31,7 +31,7 @@ connector id = id / 8 % 4
 abbrev pub laneNumber : ℕ → Bool → ℕ
 laneNumber id inner = cond inner (innerLane id) (outerLane id)
 
--- The barrel of a data id, and its lane in it: inner ids stand below 0x40.
+-- Of a data id, whether it is of an inner lane, which have the ids below 0x40, and which lane it is.
 abbrev pub isInner : ℕ → Bool
 isInner id = ltb id 0x40
 

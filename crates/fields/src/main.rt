@@ -76,7 +76,7 @@ fn show_cdw(word: Word) {
     );
 }
 
-// The lane that an id names, and where there is no such lane, that. With which lanes are active that has nothing to do.
+// The lane that an id names, and where there is no such lane, a word on it. That does not go by the active lanes, so none are given.
 fn show_lane(inner: bool, lane: u8) {
     field(b"lane", lane as u64);
     let answer = lane_answer(inner, lane, 0);

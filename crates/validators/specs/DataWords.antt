@@ -39,10 +39,10 @@ outer w = eqb (topBits w) 0b010
 abbrev pub laneCode : ℕ → LaneAnswer → ℕ
 laneCode code a = cond (isMissing a) 1074 code
 
--- The row on a lane, where it is asked.
+-- The row on a lane, where it is asked: none if the lane is active.
 abbrev pub laneRow : Bool → ℕ → Bool → ℕ → ℕ → Row
-laneRow asked code isInner lane active =
-    let a = laneAnswer isInner lane active in
+laneRow asked code ofInner lane active =
+    let a = laneAnswer ofInner lane active in
     when (asked && not (isActive a)) (laneCode code a) lane active
 
 abbrev pub dataRows : Settings → Bool → ℕ → StoredCdw → Bool → Word → List Row

@@ -1,4 +1,4 @@
-// The records of a data word or CDW. 01, "Records": data word or CDW kind.
+// The records of a data word or CDW. 01, "Records": data word or CDW kind; 02, ticket 4.
 ghost use mathlib.Core.Path.{_≡_};
 ghost use Rattle.records.specs.Records.{padded};
 ghost use Rattle.validators.specs.DataWords.{firstCdw, laneRow, dataRows};
