@@ -24,7 +24,7 @@
 enum { PASSES = 3 };
 
 /* Settings are read at run time, so that no compiler can build them in. */
-static volatile uint64_t running = 1, frames = 1, periodic = 1, period = 198;
+static volatile uint64_t running = 1, frames = 1, periodic = 1, period = 198, rule = KHZ_RULE_1;
 
 /* Records go to the front of `records` at each call, as a box would have it; `kept` is set for a pass that is not timed, and then all of them stand
  * there one after the other. */
@@ -50,9 +50,10 @@ static void *room_for(size_t n, size_t size)
 }
 
 #ifdef BEFORE
-/* Numbers of its tracker, which another version may have more of. Small values mean the same in narrow and in wide parameters. */
+/* Numbers of its tracker, which another version may have more of. Small values mean the same in narrow and in wide parameters. A version before
+ * KHZ_API 3 has no rule, and leaves that last number where it is. */
 static size_t before_len;
-uint64_t before_start(uint64_t *, size_t, uint64_t, uint64_t, uint64_t, uint64_t);
+uint64_t before_start(uint64_t *, size_t, uint64_t, uint64_t, uint64_t, uint64_t, uint64_t);
 uint64_t before_packet(uint64_t *, size_t, uint64_t, uint64_t, uint64_t, uint64_t, uint64_t, uint64_t, uint64_t);
 khz_word_answer before_word(uint64_t *, size_t, const uint8_t *, size_t, uint64_t *, size_t);
 khz_payload_answer before_payload(uint64_t *, size_t, const uint8_t *, size_t, uint64_t *, size_t);
@@ -64,7 +65,7 @@ khz_payload_answer before_payload(uint64_t *, size_t, const uint8_t *, size_t, u
     {                                                                                                                                     \
         uint64_t t[64];                                                                                                                   \
         outcome o = {0, 0, 0};                                                                                                            \
-        o.refused = lib##_start(t, numbers, running, frames, periodic, period);                                                           \
+        o.refused = lib##_start(t, numbers, running, frames, periodic, period, rule);                                                     \
         for (const packet *p = s->packets; p < s->packets + s->count; p++) {                                                              \
             khz_payload_answer a;                                                                                                         \
             o.refused |= lib##_packet(t, numbers, p->position, p->orbit, p->trigger_type, p->bc, p->page, p->stop, p->format);            \
@@ -80,7 +81,7 @@ khz_payload_answer before_payload(uint64_t *, size_t, const uint8_t *, size_t, u
     {                                                                                                                                     \
         uint64_t t[64];                                                                                                                   \
         outcome o = {0, 0, 0};                                                                                                            \
-        o.refused = lib##_start(t, numbers, running, frames, periodic, period);                                                           \
+        o.refused = lib##_start(t, numbers, running, frames, periodic, period, rule);                                                     \
         for (const packet *p = s->packets; p < s->packets + s->count; p++) {                                                              \
             const uint8_t *w = s->bytes + p->first * KHZ_WORD_BYTES, *end = w + p->words * KHZ_WORD_BYTES;                                \
             o.refused |= lib##_packet(t, numbers, p->position, p->orbit, p->trigger_type, p->bc, p->page, p->stop, p->format);            \

@@ -24,13 +24,13 @@ enum { IHW_, TDH_, THREE, C_IHW_, C_TDH_, DATA_ };
 /* The places of a tracker. NONE marks what is not there; no value that is stored reaches it. */
 #define NONE UINT64_MAX
 enum {
-    RUNNING, FRAMES, PERIOD,                         /* settings; PERIOD or NONE */
+    RUNNING, FRAMES, PERIOD, RULE,                   /* settings; PERIOD or NONE */
     POSITION, ORBIT, TRIGGER, BC, PAGE, STOP,        /* packet */
     STRIDE,                                          /* bytes from word to word; 0 before the first packet */
     STATE, COUNT, SEEN,                              /* COUNT: words taken in this packet; SEEN: data seen in it */
     LANES, QUIET,                                    /* active lanes of the IHW stored last; ids of data words that give no record */
     TDH,                                             /* bits 63:0 of the TDH stored last */
-    INTERNAL,                                        /* BC of the internal TDH stored last, or NONE */
+    INTERNAL,                                        /* orbit and BC of the internal TDH stored last, or NONE */
     CDW,                                             /* user fields of the CDW stored last, or NONE */
     FRAME,                                           /* where the open frame began, or NONE */
     PLACES
@@ -39,6 +39,7 @@ typedef char tracker_is_long_enough[PLACES <= KHZ_TRACKER_WORDS ? 1 : -1];
 
 enum { ID_IHW = 0xE0, ID_DDW0 = 0xE4, ID_TDH = 0xE8, ID_TDT = 0xF0, ID_CDW = 0xF8 };
 enum { LAST_BC = KHZ_LAST_CROSSING, ORBIT_LENGTH = LAST_BC + 1 };
+#define HALF_A_TURN ((uint64_t)1 << 31) /* of the orbit number: from here on time ran back */
 
 /* A word: bits 63:0, bits 71:64, id. */
 typedef struct {
@@ -141,18 +142,25 @@ HOT bool take_ihw(uint64_t *t, word w, uint64_t kind, record_list *r, buffer *b,
     return true;
 }
 
-HOT void interval(const uint64_t *t, uint64_t bc, record_list *r)
+HOT void interval(const uint64_t *t, uint64_t bc, uint64_t orbit, record_list *r)
 {
-    uint64_t previous = t[INTERNAL];
-    if (t[PERIOD] == NONE || previous == NONE)
+    uint64_t previous = t[INTERNAL] & 0xFFF, orbits = (orbit - (t[INTERNAL] >> 12)) & 0xFFFFFFFF, found;
+    if (t[PERIOD] == NONE || t[INTERNAL] == NONE)
         return;
     if (previous > LAST_BC || bc > LAST_BC) {
         say(r, 1045, previous, bc);
-    } else {
-        uint64_t found = bc >= previous ? bc - previous : bc + ORBIT_LENGTH - previous;
-        if (found != t[PERIOD])
-            say(r, 45, found, t[PERIOD]);
+        return;
     }
+    if (t[RULE] == KHZ_RULE_1) {
+        found = bc >= previous ? bc - previous : bc + ORBIT_LENGTH - previous;
+    } else if (orbits >= HALF_A_TURN || (orbits == 0 && bc < previous)) {
+        say(r, 1046, previous, bc);
+        return;
+    } else {
+        found = orbits * ORBIT_LENGTH + bc - previous;
+    }
+    if (found != t[PERIOD])
+        say(r, 45, found, t[PERIOD]);
 }
 
 HOT bool take_tdh(uint64_t *t, word w, uint64_t kind, record_list *r, buffer *b, khz_word_answer *a)
@@ -195,13 +203,13 @@ HOT bool take_tdh(uint64_t *t, word w, uint64_t kind, record_list *r, buffer *b,
                 say(r, 443, type, previous_type);
         }
         if (internal && kind != KHZ_TDH_CONTINUATION)
-            interval(t, bc, r);
+            interval(t, bc, orbit, r);
     }
     if (!put(r, b))
         return false;
     t[TDH] = w.low;
     if (internal)
-        t[INTERNAL] = bc;
+        t[INTERNAL] = orbit << 12 | bc;
     if (t[FRAMES] && t[FRAME] == NONE && !continuation) {
         t[FRAME] = r->position;
         a->frame = KHZ_FRAME_OPENED;
@@ -337,16 +345,17 @@ HOT bool take(uint64_t *t, const uint8_t *bytes, buffer *b, khz_word_answer *a)
     return taken;
 }
 
-uint64_t plain_start(uint64_t *t, size_t tracker_len, uint64_t running, uint64_t frames, uint64_t periodic, uint64_t period)
+uint64_t plain_start(uint64_t *t, size_t tracker_len, uint64_t running, uint64_t frames, uint64_t periodic, uint64_t period, uint64_t rule)
 {
     if (tracker_len != KHZ_TRACKER_WORDS)
         return KHZ_NO_TRACKER;
-    if (running > 1 || frames > 1 || periodic > 1 || (periodic && period > 65535))
+    if (running > 1 || frames > 1 || periodic > 1 || (periodic && period > KHZ_PERIOD_MAX) || (rule != KHZ_RULE_1 && rule != KHZ_RULE_2))
         return KHZ_NO_SETTINGS;
     memset(t, 0, KHZ_TRACKER_WORDS * sizeof *t);
     t[RUNNING] = running;
     t[FRAMES] = frames;
     t[PERIOD] = periodic ? period : NONE;
+    t[RULE] = rule;
     t[STATE] = IHW_;
     t[INTERNAL] = t[CDW] = t[FRAME] = NONE;
     return KHZ_DONE;

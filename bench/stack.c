@@ -24,7 +24,7 @@ static size_t length;
 static volatile uint64_t seen;
 
 static void nothing(void) {}
-static void start(void) { seen = khz_start(tracker, KHZ_TRACKER_WORDS, 1, 1, 1, 198); }
+static void start(void) { seen = khz_start(tracker, KHZ_TRACKER_WORDS, 1, 1, 1, 198, KHZ_RULE_1); }
 static void reset(void) { seen = khz_reset(tracker, KHZ_TRACKER_WORDS); }
 static void begin(void)
 {

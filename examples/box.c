@@ -50,7 +50,7 @@ static uint64_t take_packets(const uint8_t *file, uint64_t *given)
     uint64_t tracker[KHZ_TRACKER_WORDS], refusal;
     const uint8_t *words = file + number(file + 12, 4);
 
-    refusal = khz_start(tracker, KHZ_TRACKER_WORDS, 1, 1, 1, 198);
+    refusal = khz_start(tracker, KHZ_TRACKER_WORDS, 1, 1, 1, 198, KHZ_RULE_1);
     for (uint64_t i = 0; i < number(file, 4) && refusal == KHZ_DONE; i++) {
         const uint8_t *p = file + PACKETS_AT + PACKET_BYTES * i;
         size_t bytes = (size_t)number(p + 22, 2) * KHZ_WORD_BYTES;

@@ -9,7 +9,7 @@
 
 mod khandzorul;
 
-use khandzorul::{Packet, Refused, Settings, Tracker, FILE_BYTES, RECORDS_PER_WORD, RECORD_NUMBERS, WORD_BYTES};
+use khandzorul::{Packet, Refused, Rule, Settings, Tracker, FILE_BYTES, RECORDS_PER_WORD, RECORD_NUMBERS, WORD_BYTES};
 use std::ffi::OsStr;
 use std::fs::File;
 use std::io::{self, Read, Write};
@@ -65,7 +65,7 @@ fn take_words(tracker: &mut Tracker, mut words: &[u8], out: &mut impl Write) -> 
 
 /// The packets of a file that check_file has accepted.
 fn take_packets(file: &[u8], out: &mut impl Write) -> Result<usize, Stopped> {
-    let mut tracker = Tracker::start(Settings { running: true, frames: true, period: Some(198) })?;
+    let mut tracker = Tracker::start(Settings { running: true, frames: true, period: Some(198), rule: Rule::One })?;
     let (packets, mut words) = file.split_at(number(&file[12..16]) as usize);
     let mut given = 0;
     for p in packets[PACKETS_AT..].chunks(PACKET_BYTES) {

@@ -79,12 +79,20 @@ pub struct Payload {
     pub refused: Option<Refused>,
 }
 
-/// A period is at most 65,535.
+/// How a period is found: by the place in the orbit alone, or by orbits too.
+#[derive(Clone, Copy, Debug, PartialEq, Eq)]
+pub enum Rule {
+    One = 1,
+    Two = 2,
+}
+
+/// A period is at most 4,294,967,295.
 #[derive(Clone, Copy, Debug)]
 pub struct Settings {
     pub running: bool,
     pub frames: bool,
     pub period: Option<u64>,
+    pub rule: Rule,
 }
 
 #[derive(Clone, Copy, Debug)]
@@ -168,7 +176,7 @@ struct StatusAnswer {
 const _: () = assert!(size_of::<WordAnswer>() == 64 && size_of::<PayloadAnswer>() == 24 && size_of::<StatusAnswer>() == 16);
 
 extern "C" {
-    fn khz_start(tracker: *mut u64, tracker_len: usize, running: u64, frames: u64, periodic: u64, period: u64) -> u64;
+    fn khz_start(tracker: *mut u64, tracker_len: usize, running: u64, frames: u64, periodic: u64, period: u64, rule: u64) -> u64;
     #[rustfmt::skip]
     fn khz_packet(tracker: *mut u64, tracker_len: usize, position: u64, orbit: u64, trigger_type: u64, bc: u64, page: u64, stop: u64, format: u64) -> u64;
     #[rustfmt::skip]
@@ -223,7 +231,7 @@ impl Tracker {
     pub fn start(s: Settings) -> Result<Tracker, Refused> {
         let mut t = Tracker([0; TRACKER_WORDS]);
         let (running, frames, periodic) = (u64::from(s.running), u64::from(s.frames), u64::from(s.period.is_some()));
-        done(unsafe { khz_start(t.0.as_mut_ptr(), t.0.len(), running, frames, periodic, s.period.unwrap_or(0)) })?;
+        done(unsafe { khz_start(t.0.as_mut_ptr(), t.0.len(), running, frames, periodic, s.period.unwrap_or(0), s.rule as u64) })?;
         Ok(t)
     }
 

@@ -55,7 +55,7 @@ static bool check_run(const uint8_t *run, uint64_t *words, uint64_t *records)
     const size_t room = sizeof buffer / sizeof *buffer;
     khz_payload_answer first, second;
 
-    if (khz_start(tracker, KHZ_TRACKER_WORDS, 1, 1, 1, PERIOD) != KHZ_DONE)
+    if (khz_start(tracker, KHZ_TRACKER_WORDS, 1, 1, 1, PERIOD, KHZ_RULE_1) != KHZ_DONE)
         return false;
     if (khz_packet(tracker, KHZ_TRACKER_WORDS, 0, ORBIT, TRIGGER, BC, 0, 0, 2) != KHZ_DONE)
         return false;

@@ -8,7 +8,7 @@
 mod khandzorul;
 
 use khandzorul::{
-    worst_lane, write_cdw, write_data, write_ihw, Ddw0, Packet, Refused, Settings, Status, Tdh, Tdt, Tracker, DATA_BYTES, RECORDS_PER_WORD, RECORD_NUMBERS,
+    worst_lane, write_cdw, write_data, write_ihw, Ddw0, Packet, Refused, Rule, Settings, Status, Tdh, Tdt, Tracker, DATA_BYTES, RECORDS_PER_WORD, RECORD_NUMBERS,
     WORD_BYTES,
 };
 use std::fs;
@@ -51,7 +51,7 @@ fn write_run(run: &mut [u8]) -> Result<(), Refused> {
 /// The words through the checker: how many were taken, and how many records they gave.
 fn check_run(run: &[u8]) -> Result<(usize, usize), Refused> {
     let mut records = [0; WORDS * RECORDS_PER_WORD * RECORD_NUMBERS];
-    let mut tracker = Tracker::start(Settings { running: true, frames: true, period: Some(PERIOD) })?;
+    let mut tracker = Tracker::start(Settings { running: true, frames: true, period: Some(PERIOD), rule: Rule::One })?;
     let (page_0, page_1) = run.split_at(PAGE_0 * WORD_BYTES);
     let packet = Packet { position: 0, orbit: ORBIT, trigger_type: TRIGGER, bc: BC, page: 0, stop: 0, format: 2 };
     tracker.packet(packet)?;

@@ -41,7 +41,7 @@
 extern "C" {
 #endif
 
-#define KHZ_API 2                                /* the version of this boundary */
+#define KHZ_API 3                                /* the version of this boundary */
 
 #define KHZ_TRACKER_WORDS 32                     /* numbers in a tracker */
 #define KHZ_WORD_BYTES 10                        /* bytes in a word */
@@ -53,6 +53,7 @@ extern "C" {
 #define KHZ_FILE_BYTES 60000                     /* bytes that a bench file has at most */
 #define KHZ_LAST_CROSSING 3563                   /* the last legal crossing of an orbit; no period is taken past it */
 #define KHZ_POSITION_MAX ((uint64_t)1 << 62)     /* the largest position of a packet */
+#define KHZ_PERIOD_MAX UINT32_MAX                /* the largest period, 4,294,967,295 crossings */
 
 #if defined(__GNUC__)
 #define KHZ_ANSWER __attribute__((warn_unused_result))
@@ -61,6 +62,13 @@ extern "C" {
 #else
 #define KHZ_ANSWER
 #endif
+
+/* How the period between two internal triggers is found. Rule 1 sees the place in the orbit alone, and finds 0 to 3563: triggers every third
+ * orbit have period 0. Rule 2 counts orbits too, over the turn of the orbit number from 4,294,967,295 to 0: the same triggers have 10,692. */
+enum khz_rule {
+    KHZ_RULE_1 = 1,
+    KHZ_RULE_2 = 2
+};
 
 /* What a word was taken as. */
 enum khz_kind {
@@ -104,7 +112,7 @@ enum khz_refusal {
     KHZ_FILE_COUNT = 7,                          /* the packets' word counts do not sum to the header's */
     KHZ_WORD_FIELD = 8,                          /* a field to be written is wider than its bits, or a data word's id is no data id or its bytes not 9 */
     KHZ_NO_TRACKER = 100,                        /* tracker_len is not KHZ_TRACKER_WORDS, or the array holds no tracker (all zeros is none) */
-    KHZ_NO_SETTINGS = 101                        /* a flag is neither 0 nor 1, or periodic is 1 and the period above 65,535 */
+    KHZ_NO_SETTINGS = 101                        /* a flag is neither 0 nor 1, or periodic is 1 and the period above KHZ_PERIOD_MAX, or the rule is neither 1 nor 2 */
 };
 
 /* Codes of records: the second number of a record. docs/CODES.md says of each what its two last numbers are and what to look at.
@@ -130,6 +138,7 @@ enum khz_code {
     KHZ_CODE_UNKNOWN_IN_DATA = 991,              /* an id that is neither data, CDW nor TDT; the word was taken as data */
     KHZ_CODE_UNKNOWN_AFTER_DONE = 992,           /* an id that is neither TDH, DDW0 nor IHW; the word was taken as DDW0 */
     KHZ_CODE_PAST_LAST_CROSSING = 1045,          /* R: a crossing is above 3563, so that there is no period */
+    KHZ_CODE_TIME_RAN_BACK = 1046,               /* R, rule 2: an internal trigger is earlier than the one before it, or 2^31 orbits or more later */
     KHZ_CODE_OUTER_LANE = 1071,                  /* R: an outer lane sent data, and the IHW has not switched it on */
     KHZ_CODE_INNER_LANE = 1072,                  /* R: an inner lane sent data, and the IHW has not switched it on */
     KHZ_CODE_INPUT = 1073,                       /* R: the input number of an outer lane is above 6 */
@@ -177,8 +186,9 @@ _Static_assert(sizeof(khz_word_answer) == 64 && sizeof(khz_payload_answer) == 24
 
 /* Makes a tracker, whatever stood in the array before. Answers 0, 100 or 101.
  * running: running checks on (1) or off (0). frames: readout frames on or off. periodic: 1 if a trigger period is looked for. period: that
- * period, at most 65,535; where periodic is 0 it is not looked at. Settings are fixed from here on. */
-KHZ_ANSWER uint64_t khz_start(uint64_t *tracker, size_t tracker_len, uint64_t running, uint64_t frames, uint64_t periodic, uint64_t period);
+ * period in crossings, at most KHZ_PERIOD_MAX; where periodic is 0 it is not looked at. rule: by which it is found, KHZ_RULE_1 or KHZ_RULE_2,
+ * also where periodic is 0. Settings are fixed from here on. */
+KHZ_ANSWER uint64_t khz_start(uint64_t *tracker, size_t tracker_len, uint64_t running, uint64_t frames, uint64_t periodic, uint64_t period, uint64_t rule);
 
 /* Begins a packet: its words count from 1 again, and no data is seen in it yet. Answers 0, 100 or 5.
  * Ranges: position at most KHZ_POSITION_MAX; orbit and trigger_type below 2^32; bc at most 4095; page below 2^16; stop below 2^8; format 0 (16

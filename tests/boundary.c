@@ -38,7 +38,7 @@ static const uint8_t whole_case[90] = {
 };
 enum { CASE_WORDS = 40 };                            /* where the words begin */
 
-/* What it gives, word by word: kind, records, frame, its start and end, lanes; then the records. */
+/* What it gives, by either rule of a period, word by word: kind, records, frame, its start and end, lanes; then the records. */
 static const uint64_t case_answers[5][6] = {
     {KHZ_IHW, 0, KHZ_FRAME_NONE, 0, 0, 1},
     {KHZ_TDH, 0, KHZ_FRAME_OPENED, 0, 0, 0},
@@ -48,18 +48,18 @@ static const uint64_t case_answers[5][6] = {
 };
 static const uint64_t case_records[3][KHZ_RECORD_NUMBERS] = {{84, 1072, 1, 1}, {104, 440, 3564, 198}, {104, 1045, 3564, 198}};
 
-static void begin_case(uint64_t *t)
+static void begin_case(uint64_t *t, uint64_t rule)
 {
-    expect(khz_start(t, KHZ_TRACKER_WORDS, 1, 1, 1, 198) == KHZ_DONE, "khz_start is refused");
+    expect(khz_start(t, KHZ_TRACKER_WORDS, 1, 1, 1, 198, rule) == KHZ_DONE, "khz_start is refused");
     expect(khz_packet(t, KHZ_TRACKER_WORDS, 0, 7, 0x10, 3564, 0, 0, 2) == KHZ_DONE, "the packet of the whole case is refused");
 }
 
-static void case_by_words(void)
+static void case_by_words(uint64_t rule)
 {
     uint64_t t[KHZ_TRACKER_WORDS], records[KHZ_RECORDS_PER_WORD * KHZ_RECORD_NUMBERS];
     const uint64_t *next = case_records[0];
 
-    begin_case(t);
+    begin_case(t, rule);
     for (int i = 0; i < 5; i++) {
         const uint64_t *want = case_answers[i];
         khz_word_answer a = khz_word(t, KHZ_TRACKER_WORDS, whole_case + CASE_WORDS + 10 * i, KHZ_WORD_BYTES, records, sizeof records / sizeof *records);
@@ -74,18 +74,18 @@ static void case_by_words(void)
     }
 }
 
-static void case_by_payload(void)
+static void case_by_payload(uint64_t rule)
 {
     uint64_t t[KHZ_TRACKER_WORDS], records[3 * KHZ_RECORD_NUMBERS];
     khz_payload_answer a;
 
-    begin_case(t);
+    begin_case(t, rule);
     a = khz_payload(t, KHZ_TRACKER_WORDS, whole_case + CASE_WORDS, 50, records, sizeof records / sizeof *records);
     expect(a.refusal == KHZ_DONE && a.words == 5 && a.records == 3, "the payload of the whole case has another answer");
     expect(memcmp(records, case_records, sizeof case_records) == 0, "the payload of the whole case gives other records");
 
     /* room for two records: the last word has two, and one is used */
-    begin_case(t);
+    begin_case(t, rule);
     a = khz_payload(t, KHZ_TRACKER_WORDS, whole_case + CASE_WORDS, 50, records, 2 * KHZ_RECORD_NUMBERS);
     expect(a.refusal == KHZ_NO_ROOM && a.words == 4 && a.records == 1, "the payload of the whole case with little room has another answer");
     a = khz_payload(t, KHZ_TRACKER_WORDS, whole_case + CASE_WORDS + 10 * a.words, 10, records, 2 * KHZ_RECORD_NUMBERS);
@@ -107,7 +107,7 @@ static void packet_ranges(void)
     uint64_t t[KHZ_TRACKER_WORDS], before[KHZ_TRACKER_WORDS], f[7] = {0};
     char what[64];
 
-    expect(khz_start(t, KHZ_TRACKER_WORDS, 1, 1, 1, 198) == KHZ_DONE, "khz_start is refused");
+    expect(khz_start(t, KHZ_TRACKER_WORDS, 1, 1, 1, 198, KHZ_RULE_1) == KHZ_DONE, "khz_start is refused");
     for (int i = 0; i < 7; i++) {
         f[i] = fields[i].last;
         snprintf(what, sizeof what, "the last %s is refused", fields[i].name);
@@ -129,29 +129,35 @@ static void packet_ranges(void)
 
 static void setting_ranges(void)
 {
-    static const uint64_t last[4] = {1, 1, 1, 65535};
-    uint64_t t[KHZ_TRACKER_WORDS], before[KHZ_TRACKER_WORDS], s[4] = {1, 1, 1, 198};
+    static const uint64_t last[5] = {1, 1, 1, KHZ_PERIOD_MAX, KHZ_RULE_2};
+    uint64_t t[KHZ_TRACKER_WORDS], before[KHZ_TRACKER_WORDS], s[5] = {1, 1, 1, 198, KHZ_RULE_1};
     char what[64];
 
-    for (int i = 0; i < 4; i++) {
+    for (int i = 0; i < 5; i++) {
         uint64_t kept = s[i];
         s[i] = last[i];
-        expect(khz_start(t, KHZ_TRACKER_WORDS, s[0], s[1], s[2], s[3]) == KHZ_DONE, "the last value of a setting is refused");
+        expect(khz_start(t, KHZ_TRACKER_WORDS, s[0], s[1], s[2], s[3], s[4]) == KHZ_DONE, "the last value of a setting is refused");
         memcpy(before, t, sizeof t);
         for (int k = 0; k < PAST; k++) {
             s[i] = last[i] + past[k];
             snprintf(what, sizeof what, "setting %d of %" PRIu64 " is not refused with 101", i, s[i]);
-            expect(khz_start(t, KHZ_TRACKER_WORDS, s[0], s[1], s[2], s[3]) == KHZ_NO_SETTINGS, what);
-            expect(khz_start(t, KHZ_TRACKER_WORDS - 1, s[0], s[1], s[2], s[3]) == KHZ_NO_TRACKER, "100 does not come before 101");
+            expect(khz_start(t, KHZ_TRACKER_WORDS, s[0], s[1], s[2], s[3], s[4]) == KHZ_NO_SETTINGS, what);
+            expect(khz_start(t, KHZ_TRACKER_WORDS - 1, s[0], s[1], s[2], s[3], s[4]) == KHZ_NO_TRACKER, "100 does not come before 101");
         }
         expect(memcmp(before, t, sizeof t) == 0, "a refused khz_start wrote");
         s[i] = kept;
     }
-    expect(khz_start(t, KHZ_TRACKER_WORDS, 1, 1, 1, 65734) == KHZ_NO_SETTINGS, "a period of 65734 is taken for 198");
+    memcpy(before, t, sizeof t);
+    expect(khz_start(t, KHZ_TRACKER_WORDS, 1, 1, 1, 4294967494, KHZ_RULE_1) == KHZ_NO_SETTINGS, "a period of 4,294,967,494 is taken for 198");
+    expect(khz_start(t, KHZ_TRACKER_WORDS, 1, 1, 1, 198, 0) == KHZ_NO_SETTINGS, "rule 0 is not refused with 101");
+    expect(khz_start(t, KHZ_TRACKER_WORDS, 1, 1, 0, 0, 0) == KHZ_NO_SETTINGS, "rule 0 is not refused with 101 without a period");
+    expect(memcmp(before, t, sizeof t) == 0, "a refused khz_start wrote");
     /* without a period its number is not looked at */
-    expect(khz_start(before, KHZ_TRACKER_WORDS, 1, 0, 0, 0) == KHZ_DONE && khz_start(t, KHZ_TRACKER_WORDS, 1, 0, 0, UINT64_MAX) == KHZ_DONE,
+    expect(khz_start(before, KHZ_TRACKER_WORDS, 1, 0, 0, 0, KHZ_RULE_1) == KHZ_DONE
+               && khz_start(t, KHZ_TRACKER_WORDS, 1, 0, 0, UINT64_MAX, KHZ_RULE_1) == KHZ_DONE,
            "khz_start without a period is refused");
     expect(memcmp(before, t, sizeof t) == 0, "a period that is not set is kept");
+    expect(khz_start(t, KHZ_TRACKER_WORDS, 1, 0, 0, 0, KHZ_RULE_2) == KHZ_DONE && memcmp(before, t, sizeof t) != 0, "the rule is not kept");
 }
 
 /* Running checks without frames: the records of the whole case, and no frame. Frames without running checks: its frames, and no record, since each of
@@ -161,7 +167,7 @@ static void settings_apart(void)
     uint64_t t[KHZ_TRACKER_WORDS], records[KHZ_RECORDS_PER_WORD * KHZ_RECORD_NUMBERS];
 
     for (uint64_t running = 0; running < 2; running++) {
-        expect(khz_start(t, KHZ_TRACKER_WORDS, running, 1 - running, 1, 198) == KHZ_DONE, "khz_start is refused");
+        expect(khz_start(t, KHZ_TRACKER_WORDS, running, 1 - running, 1, 198, KHZ_RULE_1) == KHZ_DONE, "khz_start is refused");
         expect(khz_packet(t, KHZ_TRACKER_WORDS, 0, 7, 0x10, 3564, 0, 0, 2) == KHZ_DONE, "the packet of the whole case is refused");
         for (int i = 0; i < 5; i++) {
             khz_word_answer a = khz_word(t, KHZ_TRACKER_WORDS, whole_case + CASE_WORDS + 10 * i, KHZ_WORD_BYTES, records, sizeof records / sizeof *records);
@@ -184,11 +190,11 @@ static void lengths(void)
     const uint8_t *w = whole_case + CASE_WORDS;
     const size_t room = sizeof records / sizeof *records;
 
-    begin_case(t);
+    begin_case(t, KHZ_RULE_1);
     memcpy(before, t, sizeof t);
     for (size_t k = 0; k < sizeof more / sizeof *more; k++) {
         size_t n = KHZ_TRACKER_WORDS + more[k], bytes = KHZ_WORD_BYTES + more[k];
-        expect(khz_start(t, n, 1, 1, 1, 0) == KHZ_NO_TRACKER, "khz_start takes a longer array");
+        expect(khz_start(t, n, 1, 1, 1, 0, KHZ_RULE_1) == KHZ_NO_TRACKER, "khz_start takes a longer array");
         expect(khz_packet(t, n, 0, 0, 0, 4096, 0, 0, 2) == KHZ_NO_TRACKER, "khz_packet takes a longer array, or 100 does not come before 5");
         expect(khz_word(t, n, w, bytes, records, room).refusal == KHZ_NO_TRACKER, "khz_word takes a longer array, or 100 does not come before 1");
         expect(khz_payload(t, n, w, bytes, records, room).refusal == KHZ_NO_TRACKER, "khz_payload does");
@@ -205,7 +211,7 @@ static void versions(void)
 {
     uint64_t t[KHZ_TRACKER_WORDS], records[KHZ_RECORD_NUMBERS] = {0};
 
-    expect(khz_start(t, KHZ_TRACKER_WORDS, 1, 1, 1, 198) == KHZ_DONE, "khz_start is refused");
+    expect(khz_start(t, KHZ_TRACKER_WORDS, 1, 1, 1, 198, KHZ_RULE_1) == KHZ_DONE, "khz_start is refused");
     expect((t[0] & 0xFF) == KHZ_API, "a tracker's mark does not carry KHZ_API");
     t[0] ^= KHZ_API ^ (KHZ_API - 1);
     expect(khz_packet(t, KHZ_TRACKER_WORDS, 0, 0, 0, 0, 0, 0, 2) == KHZ_NO_TRACKER, "khz_packet takes a tracker of an older version");
@@ -557,7 +563,7 @@ static void past_of(uint64_t *t, int words, int ends_in, uint8_t own)
         [TDT_NOT_DONE] = {3, {{0xE8}, {0x20}, {0xF0}}},
     };
 
-    expect(khz_start(t, KHZ_TRACKER_WORDS, 1, 1, 1, 198) == KHZ_DONE, "khz_start is refused");
+    expect(khz_start(t, KHZ_TRACKER_WORDS, 1, 1, 1, 198, KHZ_RULE_1) == KHZ_DONE, "khz_start is refused");
     expect(khz_packet(t, KHZ_TRACKER_WORDS, own, own, own, own, 0, 0, 2) == KHZ_DONE, "a packet is refused");
     for (int i = 0; i < words; i++)
         expect(say(t, own, 0x10, own, run[i][1], run[i][0]).refusal == KHZ_DONE, "a word of a past is refused");
@@ -628,7 +634,7 @@ static void ihw_at_page(size_t way, uint64_t page, uint64_t stop, bool running)
     khz_word_answer a;
     size_t n = 0;
 
-    expect(khz_start(t, KHZ_TRACKER_WORDS, running, 1, 0, 0) == KHZ_DONE, "khz_start is refused");
+    expect(khz_start(t, KHZ_TRACKER_WORDS, running, 1, 0, 0, KHZ_RULE_1) == KHZ_DONE, "khz_start is refused");
     expect(khz_packet(t, KHZ_TRACKER_WORDS, 1000, 0, 0, 0, 0, 0, 2) == KHZ_DONE, "a packet is refused");
     for (int i = 0; i < ways[way].words; i++) {
         const uint8_t *w = ways[way].word[i];
@@ -655,7 +661,7 @@ static void long_run(void)
     static const uint8_t ddw0[KHZ_WORD_BYTES] = {[9] = 0xE4};
     uint8_t words[4][KHZ_WORD_BYTES] = {{1, [9] = 0xE0}, {0x10, 0x10, [9] = 0xE8}, {[9] = 0x20}, {[8] = 1, 0xF0}}; /* IHW, internal TDH, data, TDT */
     uint64_t t[KHZ_TRACKER_WORDS], records[4 * KHZ_RECORDS_PER_WORD * KHZ_RECORD_NUMBERS], triggers = 0, position = 0, given = 0, taken = 0;
-    uint64_t refused = khz_start(t, KHZ_TRACKER_WORDS, 1, 1, 1, 198);
+    uint64_t refused = khz_start(t, KHZ_TRACKER_WORDS, 1, 1, 1, 198, KHZ_RULE_1);
 
     for (uint64_t orbit = 0; orbit < 2; orbit++)
         for (uint64_t page = 0; page < 65536; page++, position += 128) {
@@ -720,7 +726,7 @@ static bool ids_agree(uint64_t active, bool running, bool continued)
     uint8_t ihw[KHZ_WORD_BYTES] = {[9] = 0xE0}, w[KHZ_WORD_BYTES] = {0};
     uint64_t begun[KHZ_TRACKER_WORDS], records[KHZ_RECORDS_PER_WORD * KHZ_RECORD_NUMBERS], said[KHZ_RECORDS_PER_WORD][KHZ_RECORD_NUMBERS];
     const size_t room = sizeof records / sizeof *records;
-    bool agree = khz_start(begun, KHZ_TRACKER_WORDS, running, 0, 0, 0) == KHZ_DONE;
+    bool agree = khz_start(begun, KHZ_TRACKER_WORDS, running, 0, 0, 0, KHZ_RULE_1) == KHZ_DONE;
 
     put(ihw, active, 4);
     for (int page = 0; page <= continued; page++) {
@@ -766,10 +772,112 @@ static void lanes_that_can_not_be(void)
         }
 }
 
+/* Two internal TDHs with no data, of 01's and 02's numbers: where each is, and what stands between them. */
+enum between { NOTHING, ANOTHER_TDH, A_RESET, BETWEENS };
+typedef struct {
+    uint64_t orbit, bc;
+} crossing;
+
+/* Time from one crossing to another, in crossings: the later orbit is the one that is less than half a turn of the orbit number away. */
+static int64_t time_from(crossing a, crossing b)
+{
+    uint64_t orbits = (b.orbit + (UINT64_C(1) << 32) - a.orbit) % (UINT64_C(1) << 32);
+    int64_t on = (int64_t)orbits - (orbits < UINT64_C(1) << 31 ? 0 : INT64_C(1) << 32);
+    return on * (KHZ_LAST_CROSSING + 1) + (int64_t)b.bc - (int64_t)a.bc;
+}
+
+/* The record of the interval, without its position; none has code 0. */
+static void said_of_interval(uint64_t rule, uint64_t set, crossing a, crossing b, uint64_t said[3])
+{
+    const int64_t orbit = KHZ_LAST_CROSSING + 1, time = rule == KHZ_RULE_2 ? time_from(a, b) : ((int64_t)b.bc - (int64_t)a.bc + orbit) % orbit;
+    bool legal = a.bc <= KHZ_LAST_CROSSING && b.bc <= KHZ_LAST_CROSSING;
+
+    said[0] = !legal ? KHZ_CODE_PAST_LAST_CROSSING : time < 0 ? KHZ_CODE_TIME_RAN_BACK : (uint64_t)time != set ? KHZ_CODE_PERIOD : 0;
+    said[1] = said[0] == KHZ_CODE_PERIOD ? (uint64_t)time : a.bc;
+    said[2] = said[0] == KHZ_CODE_PERIOD ? set : b.bc;
+}
+
+static void put_tdh(uint8_t *w, crossing at, bool internal)
+{
+    static const uint8_t plain[KHZ_WORD_BYTES] = {1, 0x20, [9] = 0xE8};
+    memcpy(w, plain, sizeof plain);
+    w[1] |= internal ? 0x10 : 0;
+    put(w + 2, at.bc, 2);
+    put(w + 4, at.orbit, 4);
+}
+
+/* Whether the second gives the records that it should and no other word gives one. */
+static bool interval_agrees(uint64_t rule, uint64_t set, crossing a, crossing b, int between, bool running, bool periodic)
+{
+    uint64_t t[KHZ_TRACKER_WORDS], records[4 * KHZ_RECORDS_PER_WORD * KHZ_RECORD_NUMBERS], want[2][KHZ_RECORD_NUMBERS], said[3];
+    uint8_t words[4 * KHZ_WORD_BYTES] = {[9] = 0xE0};
+    const size_t room = sizeof records / sizeof *records;
+    size_t n = 2, wanted = 0;
+    khz_payload_answer p;
+    uint64_t refused = khz_start(t, KHZ_TRACKER_WORDS, running, 1, periodic, set, rule);
+
+    refused |= khz_packet(t, KHZ_TRACKER_WORDS, 0, a.orbit, 1, a.bc, 0, 0, 2);
+    put_tdh(words + 10, a, true);
+    if (between == ANOTHER_TDH)
+        put_tdh(words + 10 * n++, (crossing){a.orbit ^ 0x55555555, a.bc}, false);
+    if (between == A_RESET) {
+        p = khz_payload(t, KHZ_TRACKER_WORDS, words, 10 * n, records, room);
+        refused |= p.refusal | p.records | khz_reset(t, KHZ_TRACKER_WORDS) | khz_packet(t, KHZ_TRACKER_WORDS, 0, b.orbit, 1, b.bc, 0, 0, 2);
+        n = 1;
+    }
+    put_tdh(words + 10 * n++, b, true);
+    p = khz_payload(t, KHZ_TRACKER_WORDS, words, 10 * n, records, room);
+    if (running && between != A_RESET && b.bc < a.bc) {
+        const uint64_t record[KHZ_RECORD_NUMBERS] = {54 + 10 * n, KHZ_CODE_EARLIER_CROSSING, a.bc, b.bc};
+        memcpy(want[wanted++], record, sizeof record);
+    }
+    said_of_interval(rule, set, a, b, said);
+    if (running && periodic && said[0] != 0) {
+        const uint64_t record[KHZ_RECORD_NUMBERS] = {54 + 10 * n, said[0], said[1], said[2]};
+        memcpy(want[wanted++], record, sizeof record);
+    }
+    return refused == 0 && p.refusal == KHZ_DONE && p.words == n && p.records == wanted && memcmp(records, want, wanted * sizeof *want) == 0;
+}
+
+/* Every pair of some crossings, so many orbits from one to the other, by a rule: with periods about the orbit's length, the largest one, and the very
+ * time between them; also without running checks and without a period. */
+static bool intervals_agree(uint64_t rule, uint64_t orbit, uint64_t orbits, int between)
+{
+    static const uint64_t bc[] = {0, 1, 5, 198, 1587, 3562, 3563, 3564, 4095}, periods[] = {0, 198, 3563, 3564, 10692, KHZ_PERIOD_MAX};
+    bool agree = true;
+
+    for (size_t i = 0; i < sizeof bc / sizeof *bc; i++)
+        for (size_t k = 0; k < sizeof bc / sizeof *bc; k++) {
+            crossing a = {orbit, bc[i]}, b = {(orbit + orbits) % (UINT64_C(1) << 32), bc[k]};
+            int64_t time = time_from(a, b);
+            for (size_t n = 0; n < sizeof periods / sizeof *periods; n++)
+                agree = interval_agrees(rule, periods[n], a, b, between, true, true) && agree;
+            if (time >= 0 && (uint64_t)time <= KHZ_PERIOD_MAX)
+                agree = interval_agrees(rule, (uint64_t)time, a, b, between, true, true) && agree;
+            agree = interval_agrees(rule, 198, a, b, between, false, true) && agree;
+            agree = interval_agrees(rule, 198, a, b, between, true, false) && agree;
+        }
+    return agree;
+}
+
+static void periods(void)
+{
+    static const uint64_t first[] = {0, 5, 2147483647, 2147483648, 4294967294, 4294967295},
+                          on[] = {0, 1, 2, 3, 1205097, 2147483646, 2147483647, 2147483648, 2147483649, 4294967293, 4294967294, 4294967295};
+
+    for (uint64_t rule = KHZ_RULE_1; rule <= KHZ_RULE_2; rule++)
+        for (size_t i = 0; i < sizeof first / sizeof *first; i++)
+            for (size_t k = 0; k < sizeof on / sizeof *on; k++)
+                for (int between = NOTHING; between < BETWEENS; between++)
+                    expect(intervals_agree(rule, first[i], on[k], between), "an interval gives other records than it should");
+}
+
 int main(void)
 {
-    case_by_words();
-    case_by_payload();
+    for (uint64_t rule = KHZ_RULE_1; rule <= KHZ_RULE_2; rule++) {
+        case_by_words(rule);
+        case_by_payload(rule);
+    }
     packet_ranges();
     setting_ranges();
     settings_apart();
@@ -784,6 +892,7 @@ int main(void)
     back_in_step();
     pages();
     lanes_that_can_not_be();
+    periods();
     printf("boundary: %u checks, %u failed\n", checks, failed);
     return failed ? 1 : 0;
 }

@@ -68,7 +68,7 @@ header_c() {
     for std in c99 c11; do strict_c -std=$std -c "$work/header.c" -o "$work/header.o"; done
     # an answer that is not looked at
     $cc -dM -E -x c /dev/null | grep -q __GNUC__ || return 0
-    for call in 'khz_start(0, 0, 0, 0, 0, 0)' 'khz_packet(0, 0, 0, 0, 0, 0, 0, 0, 0)' 'khz_word(0, 0, 0, 0, 0, 0)' 'khz_payload(0, 0, 0, 0, 0, 0)' \
+    for call in 'khz_start(0, 0, 0, 0, 0, 0, 0)' 'khz_packet(0, 0, 0, 0, 0, 0, 0, 0, 0)' 'khz_word(0, 0, 0, 0, 0, 0)' 'khz_payload(0, 0, 0, 0, 0, 0)' \
         'khz_reset(0, 0)' 'khz_check_file(0, 0)' 'khz_write_ihw(0, 0, 0)' 'khz_write_tdh(0, 0, 0, 0, 0, 0, 0, 0)' \
         'khz_write_tdt(0, 0, 0, 0, 0, 0, 0, 0, 0)' 'khz_write_ddw0(0, 0, 0, 0, 0, 0)' 'khz_write_cdw(0, 0, 0, 0)' 'khz_write_data(0, 0, 0, 0, 0)' \
         'khz_worst_lane(0, 0)' 'khz_lane_status(0, 0, 0)'; do

@@ -265,6 +265,40 @@ CALLS = ("words 4096 refused 3\nrefused 4 then 64 30 2 0\ndiffer 3564 sum 634926
          "page 0 start 0 three 1122 reset 0\npage 1 start 1121 three 0 reset 1121\n"
          "id 33 off on 1072\nid 40 off on\nid 41 off 991 70 on 991 70 1074\nid 71 off 991 70 on 991 70 1074 1073\n")
 
+# 02, ticket 9, two internal TDHs, each with its orbit and its crossing, by a rule and a set period: the records of the second. Its crossing being smaller
+# than that of the first gives 440, whatever the orbits. 10,692 is three orbits; 2,147,483,647 orbits are 7,653,631,717,908 crossings; 4,294,967,295
+# crossings are 1,205,097 orbits and 1,587 crossings.
+CALLS += """\
+rule 1 set 0 from 5 7 to 8 7:
+rule 1 set 10692 from 5 7 to 8 7: 45 0 10692
+rule 2 set 10692 from 5 7 to 8 7:
+rule 2 set 0 from 5 7 to 8 7: 45 10692 0
+rule 1 set 3564 from 4294967295 0 to 0 0: 45 0 3564
+rule 2 set 3564 from 4294967295 0 to 0 0:
+rule 2 set 1 from 4294967295 3563 to 0 0: 440 3563 0
+rule 1 set 3563 from 7 5 to 7 4: 440 5 4
+rule 2 set 3563 from 7 5 to 7 4: 440 5 4 1046 5 4
+rule 2 set 0 from 7 5 to 7 5:
+rule 2 set 3564 from 7 5 to 7 5: 45 0 3564
+rule 2 set 1 from 7 5 to 7 6:
+rule 2 set 198 from 0 0 to 1 198: 45 3762 198
+rule 2 set 3366 from 0 198 to 1 0: 440 198 0
+rule 2 set 0 from 0 0 to 2147483647 0: 45 7653631717908 0
+rule 2 set 0 from 0 0 to 2147483648 0: 1046 0 0
+rule 2 set 0 from 0 3563 to 2147483648 0: 440 3563 0 1046 3563 0
+rule 2 set 4294967295 from 1 0 to 0 0: 1046 0 0
+rule 2 set 0 from 1 0 to 0 3563: 1046 0 3563
+rule 2 set 4294967295 from 0 0 to 1205097 1587:
+rule 2 set 4294967295 from 0 0 to 1205097 1588: 45 4294967296 4294967295
+rule 1 set 4294967295 from 0 0 to 1205097 1587: 45 1587 4294967295
+rule 2 set 198 from 0 3366 to 0 3564: 1045 3366 3564
+rule 2 set 198 from 0 3564 to 1 198: 440 3564 198 1045 3564 198
+rule 2 set 0 from 7 4095 to 7 4095: 1045 4095 4095
+rule 2 set 0 from 7 4095 to 7 0: 440 4095 0 1045 4095 0
+rule 2 set 0 from 8 0 to 7 3564: 1045 0 3564
+"""
+assert 2147483647 * 3564 == 7653631717908 and 1205097 * 3564 + 1587 == 4294967295
+
 
 def main():
     source = open(os.path.join(HERE, "src/main.rt")).read()

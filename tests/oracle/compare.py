@@ -34,7 +34,7 @@ HERE = os.path.dirname(os.path.abspath(__file__))
 ROOT = os.path.dirname(os.path.dirname(HERE))
 # what the sequences must bring up on one side or the other, or they are too weak: all codes of docs/CODES.md, and 990
 CODES = {30, 40, 41, 42, 44, 45, 50, 59, 60, 70, 81, 440, 441, 442, 443, 444, 445, 990, 991, 992,
-         1045, 1071, 1072, 1073, 1074, 1110, 1111, 1120, 1121, 1122}
+         1045, 1046, 1071, 1072, 1073, 1074, 1110, 1111, 1120, 1121, 1122}
 KINDS = {'IHW', 'IHW_continuation', 'TDH', 'TDH_after_packet_done', 'TDH_continuation', 'DataWord', 'CDW', 'TDT', 'DDW0'}
 
 
@@ -114,7 +114,7 @@ def compare(calls, ours, rust, inputs, debug=None):
                 continue
             f = line.split()
             if f[0] == 'S':
-                m.start(f[1] == '1', f[2] == '1', None if f[3] == '-' else int(f[3]))
+                m.start(f[1] == '1', f[2] == '1', None if f[3] == '-' else int(f[3]), *map(int, f[4:]))
             elif f[0] == 'P':
                 m.packet(int(f[1]), int(f[5]), int(f[6]), int(f[7]))
             elif f[0] == 'R':

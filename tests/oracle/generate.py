@@ -11,6 +11,9 @@ import sys
 
 SIZES = {'short': 14_000, 'long': 1_000_000}  # words at least, beside every id in every state and every bit
 SETTINGS = [(running, frames, period) for running in (0, 1) for frames in (0, 1) for period in ('-', 198, 0, 3564, 65535)]
+# those of document 02, ticket 9, that the Rust does not have: by rule 2, and a period of more than 16 bits
+LONG_SETTINGS = [(running, frames, period, rule) for running, frames in ((1, 1), (1, 0), (0, 1))
+                 for period, rule in (('-', 2), (198, 2), (0, 2), (3564, 2), (10692, 2), (2**32 - 1, 2), (65536, 1), (2**32 - 1, 1))]
 IHW, DDW0, TDH, TDT, CDW = 0xE0, 0xE4, 0xE8, 0xF0, 0xF8
 INNER = list(range(0x20, 0x29))
 OUTER = [i for base in (0x40, 0x48, 0x50, 0x58) for i in range(base, base + 7)]
@@ -215,6 +218,26 @@ def intervals(c, settings):
     return out
 
 
+def orbits(c, settings):
+    """Internal TDHs whose orbits go on by about the set period, by a few or by about half a turn, or back, over the turn of the orbit number; others
+    between them."""
+    period = settings[2] if settings[2] != '-' else 198
+    out = [['S', settings], packet(c.position(), 7, 0x10, 0, 0, 0, 2), ['W', ihw(1)]]
+    at = c.orbit() * ORBIT_LENGTH + c.pick(EDGE_BC[:15])
+    for _ in range(6 + c.below(18)):
+        on = c.pick([period, period, period, period + c.below(5) - 2, c.below(3) * ORBIT_LENGTH, -c.below(4), -c.below(3) * ORBIT_LENGTH,
+                     c.below(10) * ORBIT_LENGTH + c.below(ORBIT_LENGTH), (2**31 - 2 + c.below(4)) * ORBIT_LENGTH + c.below(5) - 2,
+                     2**32 * ORBIT_LENGTH - 2 + c.below(5)])
+        at = (at + on) % (2**32 * ORBIT_LENGTH)
+        bc, orbit = at % ORBIT_LENGTH, at // ORBIT_LENGTH
+        if c.often(0.1):  # a crossing that is none; the next one goes on from the legal one
+            bc = c.pick([3564, 3565, 4095])
+        if c.often(0.2):
+            out.append(['W', tdh(0x10, c.below(ORBIT_LENGTH), c.orbit(), 0, 1)])
+        out.append(['W', tdh(0x10, bc, orbit, 1, 1)])
+    return out
+
+
 def lanes(c, settings):
     """All ids with top bits 001 and 010, and some others, against an IHW's lanes."""
     out = [['S', settings], random_packet(c), ['W', ihw(c.lanes())], ['W', tdh(1, 0, 0)]]
@@ -308,6 +331,7 @@ def every_bit(settings_of):
             number += 1
 
 
+LONG_MAKERS = [orbits, orbits, orbits, intervals, damaged]
 MAKERS = [well_formed, well_formed, damaged, damaged, damaged, intervals, intervals, lanes, calibration, any_words, any_words]
 
 
@@ -331,6 +355,12 @@ def sequences(seed, size):
         words += sum(1 for call in made if call[0] == 'W')
         number += 1
         yield made
+    number = words = 0
+    while words < SIZES[size] // 4:
+        made = LONG_MAKERS[number % len(LONG_MAKERS)](c, LONG_SETTINGS[number // len(LONG_MAKERS) % len(LONG_SETTINGS)])
+        words += sum(1 for call in made if call[0] == 'W')
+        number += 1
+        yield made
 
 
 def line(call):
@@ -338,7 +368,7 @@ def line(call):
     if kind == 'W':
         return 'W ' + call[1].to_bytes(10, 'little').hex()
     if kind == 'S':
-        return 'S %d %d %s' % call[1]
+        return 'S ' + ' '.join(map(str, call[1]))
     return ' '.join(map(str, call))
 
 

@@ -347,13 +347,13 @@ static void check_no_tracker(void)
 }
 #endif
 
-static void start(uint64_t running, uint64_t frames, uint64_t periodic, uint64_t period)
+static void start(uint64_t running, uint64_t frames, uint64_t periodic, uint64_t period, uint64_t rule)
 {
     tracker_array other;
 
     end_stretch();
     memset(&tracker, 0x5A, sizeof tracker);
-    if (khz_start(tracker.n, KHZ_TRACKER_WORDS, running, frames, periodic, period) != 0)
+    if (khz_start(tracker.n, KHZ_TRACKER_WORDS, running, frames, periodic, period, rule) != 0)
         tell("khz_start is refused");
     started = true;
     accepted = false;
@@ -362,14 +362,17 @@ static void start(uint64_t running, uint64_t frames, uint64_t periodic, uint64_t
         uint8_t w[KHZ_WORD_BYTES] = {0};
         memset(&other, 0xC3, sizeof other);
         other.n[KHZ_TRACKER_WORDS] = tracker.n[KHZ_TRACKER_WORDS];
-        demand(khz_start(other.n, KHZ_TRACKER_WORDS, running, frames, periodic, periodic ? period : ~period) == 0, "khz_start is refused");
+        demand(khz_start(other.n, KHZ_TRACKER_WORDS, running, frames, periodic, periodic ? period : ~period, rule) == 0, "khz_start is refused");
         demand(same_tracker(&other, &tracker), "what khz_start writes depends on what stood there, or on a period that is not set");
-        demand(khz_start(other.n, KHZ_TRACKER_WORDS, 2, frames, periodic, period) == 101, "khz_start takes a flag of 2");
-        demand(khz_start(other.n, KHZ_TRACKER_WORDS, running, frames, 1, period + 65536) == 101, "khz_start takes a period above 65,535");
-        demand(khz_start(other.n, KHZ_TRACKER_WORDS - 1, running, 2, periodic, period) == 100, "100 does not come before 101");
-        demand(khz_start(other.n, KHZ_TRACKER_WORDS - 1, running, frames, periodic, period) == 100, "khz_start takes a short array");
-        demand(khz_start(other.n, KHZ_TRACKER_WORDS + 1, !running, frames, periodic, period) == 100, "khz_start takes a long array");
-        demand(khz_start(NULL, 0, running, frames, periodic, period) == 100, "khz_start takes no array");
+        demand(khz_start(other.n, KHZ_TRACKER_WORDS, 2, frames, periodic, period, rule) == 101, "khz_start takes a flag of 2");
+        demand(khz_start(other.n, KHZ_TRACKER_WORDS, running, frames, 1, period + ((uint64_t)1 << 32), rule) == 101, "khz_start takes a period above 4,294,967,295");
+        demand(khz_start(other.n, KHZ_TRACKER_WORDS, running, frames, periodic, period, 0) == 101, "khz_start takes rule 0");
+        demand(khz_start(other.n, KHZ_TRACKER_WORDS, running, frames, periodic, period, 3) == 101, "khz_start takes rule 3");
+        demand(khz_start(other.n, KHZ_TRACKER_WORDS, running, frames, periodic, period, rule + ((uint64_t)1 << 32)) == 101, "khz_start cuts the rule");
+        demand(khz_start(other.n, KHZ_TRACKER_WORDS - 1, running, 2, periodic, period, rule) == 100, "100 does not come before 101");
+        demand(khz_start(other.n, KHZ_TRACKER_WORDS - 1, running, frames, periodic, period, rule) == 100, "khz_start takes a short array");
+        demand(khz_start(other.n, KHZ_TRACKER_WORDS + 1, !running, frames, periodic, period, rule) == 100, "khz_start takes a long array");
+        demand(khz_start(NULL, 0, running, frames, periodic, period, rule) == 100, "khz_start takes no array");
         demand(same_tracker(&other, &tracker), "a refused khz_start wrote");
         check_refusals(w, false, false);
 #ifndef PLAIN
@@ -525,8 +528,8 @@ int main(int argc, char **argv)
     }
     while (fgets(line, sizeof line, stdin)) {
         uint64_t f[7];
-        unsigned running, frames;
-        char period[8];
+        unsigned running, frames, rule;
+        char period[16];
         size_t n;
 
         line_number++;
@@ -540,9 +543,10 @@ int main(int argc, char **argv)
         }
         switch (line[0]) {
         case 'S':
-            if (sscanf(line + 1, "%u %u %7s", &running, &frames, period) != 3)
+            rule = 1;
+            if (sscanf(line + 1, "%u %u %15s %u", &running, &frames, period, &rule) < 3)
                 bad_line();
-            start(running == 1, frames == 1, period[0] != '-', (uint16_t)atoi(period));
+            start(running == 1, frames == 1, period[0] != '-', period[0] != '-' ? strtoull(period, NULL, 10) : 0, rule);
             break;
         case 'P':
             if (sscanf(line + 1, "%" SCNu64 "%" SCNu64 "%" SCNu64 "%" SCNu64 "%" SCNu64 "%" SCNu64 "%" SCNu64, &f[0], &f[1], &f[2], &f[3], &f[4], &f[5], &f[6]) != 7)

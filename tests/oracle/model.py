@@ -1,8 +1,8 @@
 """model.py: what the input alone says about where the Rust and document 01 part. It never looks at an answer.
 
 It follows 01's seven states, the TDH that entered the three-way state, the lanes of the last IHW, the last internal TDH and whether a
-frame is open, and names for each word the difference that must be there, or none. Three come up in the generated sequences, where every
-word has ten bytes and stands in a packet that is not full (docs/DIFFERENCES.md, 1 to 3):
+frame is open, and names for each word the difference that must be there, or none. Four come up in the generated sequences, where every
+word has ten bytes and stands in a packet that is not full (docs/DIFFERENCES.md, 1 to 3 and 8):
 
     E990             an id that is unknown in the three-way state, which a TDH with no data entered. From here on the two sides are in
                      different states, until the next start.
@@ -10,9 +10,12 @@ word has ten bytes and stands in a packet that is not full (docs/DIFFERENCES.md,
     no such lane     a word in the data section, with running checks, whose inner lane is above 8 or whose outer lane is above 27: 1074
                      (document 02, ticket 4). The Rust tests bit lane mod 32 of the active lanes, as its release build does, and gives 1072
                      or 1071 where it is clear
+    longer period    an interval by rule 2 (document 02, ticket 9), or with a set period above 65,535. The Rust has neither: it finds the
+                     place in the orbit whatever the rule, and a period that its setting can't hold is none
 """
-E990, HIGH_BC, NO_LANE = 'E990', 'BC above 3563', 'no such lane'
-CLASSES = (E990, HIGH_BC, NO_LANE)
+E990, HIGH_BC, NO_LANE, LONGER = 'E990', 'BC above 3563', 'no such lane', 'longer period'
+CLASSES = (E990, HIGH_BC, NO_LANE, LONGER)
+NUMBERS = {'1': E990, '2': HIGH_BC, '3': NO_LANE, '8': LONGER}  # by their numbers in docs/DIFFERENCES.md
 LAST_BC = 3563
 
 
@@ -27,19 +30,19 @@ def outer_lane(id):
 
 
 class Difference:
-    """What each side must answer. `ours` and `rust` are whole answers; of HIGH_BC they are records that stand in one answer alone (or None)."""
+    """What each side must answer. `ours` and `rust` are whole answers; of an interval they are records that stand in one answer alone (or None)."""
 
     def __init__(self, kind, ours, rust):
         self.kind, self.ours, self.rust = kind, ours, rust
 
 
 class Model:
-    def start(self, running, frames, period):
-        self.running, self.frames, self.period = running, frames, period
+    def start(self, running, frames, period, rule=1):
+        self.running, self.frames, self.period, self.rule = running, frames, period, rule
         self.state = 'IHW_'
         self.by_no_data = False  # a TDH with no data entered the three-way state
         self.lanes = 0
-        self.internal_bc = None
+        self.internal = None  # orbit and crossing of the last internal TDH
         self.open = False
         self.apart = False  # the two sides are in different states
 
@@ -73,26 +76,39 @@ class Model:
                 return None
             self.apart = True
             return self.e990(place, id, int(text[2:4], 16) >> 6 & 1)
-        return self.tdh(place, state, int.from_bytes(bytes.fromhex(text[:8]), 'little'))
+        return self.tdh(place, state, int.from_bytes(bytes.fromhex(text[:16]), 'little'))
 
     def tdh(self, place, state, low):
-        internal, no_data, continuation, bc = low >> 12 & 1, low >> 13 & 1, low >> 14 & 1, low >> 16 & 0xFFF
-        previous = self.internal_bc
+        internal, no_data, continuation, bc, orbit = low >> 12 & 1, low >> 13 & 1, low >> 14 & 1, low >> 16 & 0xFFF, low >> 32
+        earlier = self.internal
         if internal:
-            self.internal_bc = bc
+            self.internal = orbit, bc
         self.open = self.open or self.frames and not continuation
         if state == 'c_TDH_':
             self.state = 'DATA_'
             return None
         self.state, self.by_no_data = ('THREE', True) if no_data else ('DATA_', False)
-        if not (self.running and self.period is not None and internal and previous is not None):
+        if not (self.running and self.period is not None and internal and earlier is not None):
             return None
-        if previous <= LAST_BC and bc <= LAST_BC:
-            return None
-        # the release build counts on 16 bits
-        found = (bc - previous if bc >= previous else LAST_BC - previous + 1 + bc) % 2**16
-        rust = None if found == self.period else '%d 45 %d %d' % (place, found, self.period)
-        return Difference(HIGH_BC, '%d 1045 %d %d' % (place, previous, bc), rust)
+        return self.interval(place, orbit - earlier[0], earlier[1], bc)
+
+    def interval(self, place, orbits, previous, bc):
+        """Of two internal TDHs, so many orbits apart."""
+        def told(found):
+            return None if found == self.period else '%d 45 %d %d' % (place, found, self.period)
+
+        # the release build counts on 16 bits, and knows no longer period
+        rust = told((bc - previous if bc >= previous else LAST_BC - previous + 1 + bc) % 2**16) if self.period < 2**16 else None
+        orbits %= 2**32
+        if previous > LAST_BC or bc > LAST_BC:
+            return Difference(HIGH_BC, '%d 1045 %d %d' % (place, previous, bc), rust)
+        if self.rule == 1:
+            ours = told((bc - previous) % (LAST_BC + 1))
+        elif orbits >= 2**31 or orbits == 0 and bc < previous:
+            ours = '%d 1046 %d %d' % (place, previous, bc)
+        else:
+            ours = told(orbits * (LAST_BC + 1) + bc - previous)
+        return None if ours == rust else Difference(LONGER, ours, rust)
 
     def on_lane(self, place, id):
         """A word with the id of an inner or an outer lane. Where there is no such lane, the id is no data id, and that of an outer one has input 7."""
@@ -116,7 +132,7 @@ class Model:
 
 def as_said(difference, ours, rust):
     """Do the two answers differ in what the model says, and in nothing else?"""
-    if difference.kind != HIGH_BC:
+    if difference.kind not in (HIGH_BC, LONGER):
         return ours == difference.ours and rust == difference.rust
     ours, rust = ours.split(' ; '), rust.split(' ; ')
     for answer, record in ((ours, difference.ours), (rust, difference.rust)):

@@ -31,7 +31,7 @@ EVERY = ['we', 'release', 'debug']
 class Call:
     def __init__(self, line):
         words = line.split()
-        n = FIELDS[words[0]]
+        n = FIELDS[words[0]] + (words[0] == 'S' and words[4:] in (['1'], ['2']))
         self.name, self.fields = words[0], words[:n]
         self.times = int(words[n][1:]) if words[n:] and words[n][0] == '*' else 1
         self.said = {}  # by side
@@ -96,7 +96,7 @@ def check_model(i):
     for call in i.calls:
         f = call.fields
         if call.name == 'S':
-            m.start(f[1] == '1', f[2] == '1', None if f[3] == '-' else int(f[3]))
+            m.start(f[1] == '1', f[2] == '1', None if f[3] == '-' else int(f[3]), *map(int, f[4:]))
         elif call.name == 'P':
             m.packet(int(f[1]), int(f[5]), int(f[6]), int(f[7]))
         elif not m.apart:
@@ -105,7 +105,7 @@ def check_model(i):
             if (d is None) != (we == release) or d is not None and not model.as_said(d, we, release):
                 return False
             shown |= {d.kind} if d else set()
-    return shown <= {model.CLASSES[int(i.number[0]) - 1]}
+    return shown <= {model.NUMBERS[i.number[0]]}
 
 
 def check_form(inputs):
@@ -119,7 +119,7 @@ def check_form(inputs):
             wrong.append('%s does not say what each side answers' % i.name)
         elif not any(len(set(s.values())) > 1 for s in said):
             wrong.append('%s shows no difference' % i.name)
-        elif not i.single and int(i.number[0]) <= len(model.CLASSES) and not check_model(i):
+        elif not i.single and i.number[0] in model.NUMBERS and not check_model(i):
             wrong.append('%s: the model says otherwise' % i.name)
         if '`%s`' % i.number not in document:
             wrong.append('%s is not named in docs/DIFFERENCES.md' % i.name)

@@ -47,7 +47,7 @@ absent-zero false n e = refl
 begun : Settings → ℕ → Tracker
 begun s n =
     record {
-      settings = record { running = s .running; frames = s .frames; periodic = s .periodic; period = n };
+      settings = record { running = s .running; frames = s .frames; periodic = s .periodic; period = n; rule = s .rule };
       accepted = false;
       packet = noPacket;
       fsm = start;

@@ -29,14 +29,21 @@ abbrev pub noTdh : StoredTdh
 noTdh = record { stored = false; trigger = 0; bc = 0; orbit = 0 }
 
 abbrev pub noInternal : InternalTdh
-noInternal = record { stored = false; bc = 0 }
+noInternal = record { stored = false; bc = 0; orbit = 0 }
 
 abbrev pub noCdw : StoredCdw
 noCdw = record { stored = false; user = 0 }
 
 -- "Settings, fixed at the start": a period that is absent counts as 0.
 abbrev pub settingsOf : Settings → Settings
-settingsOf s = record { running = s .running; frames = s .frames; periodic = s .periodic; period = cond (s .periodic) (s .period) 0 }
+settingsOf s =
+    record {
+      running = s .running;
+      frames = s .frames;
+      periodic = s .periodic;
+      period = cond (s .periodic) (s .period) 0;
+      rule = s .rule;
+    }
 
 -- The start: nothing stored, in IHW_, with no packet.
 abbrev pub startOf : Settings → Tracker

@@ -179,6 +179,7 @@ fn fixed(settings: Settings) -> Settings
         } else {
             0
         },
+        rule: settings.rule,
     }
 }
 
@@ -224,6 +225,7 @@ impl Tracker {
             internal: InternalTdh {
                 stored: false,
                 bc: 0,
+                orbit: 0,
             },
             cdw: StoredCdw {
                 stored: false,

@@ -6,6 +6,7 @@ use cdp_running::Tracker;
 use libc::STDOUT_FILENO;
 use report::Report;
 use validators::Packet;
+use validators::Rule;
 use validators::Settings;
 
 // How many files there are.
@@ -58,8 +59,8 @@ fn show_files() {
     }
 }
 
-// A tracker with running checks on or off, a period, and a packet of a page at position 0 with BC 0 of format 2.
-fn packet_taken(running: bool, period: u16, page: u16) -> Tracker
+// A tracker with running checks on or off, a period found by a rule, and a packet of a page at position 0 with BC 0 of format 2.
+fn packet_by_rule(running: bool, period: u32, rule: Rule, page: u16) -> Tracker
     ensures { λ r. ⌜ Good r ⌝ }
 {
     let start = Tracker::start(Settings {
@@ -67,6 +68,7 @@ fn packet_taken(running: bool, period: u16, page: u16) -> Tracker
         frames: true,
         periodic: true,
         period: period,
+        rule: rule,
     });
     let answer = start.packet(Packet {
         position: 0,
@@ -78,6 +80,12 @@ fn packet_taken(running: bool, period: u16, page: u16) -> Tracker
         format: 2,
     });
     answer.tracker
+}
+
+fn packet_taken(running: bool, period: u32, page: u16) -> Tracker
+    ensures { λ r. ⌜ Good r ⌝ }
+{
+    packet_by_rule(running, period, Rule::One, page)
 }
 
 // The refusal of a word, or 0.
@@ -151,7 +159,7 @@ fn found(out: [u64; 8]) -> u64 {
 }
 
 // A tracker after an IHW and a TDH with BC 0 and no data: in the three-way state.
-fn tdh_taken(period: u16, page: u16) -> Tracker
+fn tdh_taken(period: u32, page: u16) -> Tracker
     ensures { λ r. ⌜ Good r ⌝ }
 {
     let mut out = [0u64; 8];
@@ -249,6 +257,108 @@ fn show_lane(id: u8) {
     text(b"\n");
 }
 
+// A TDH with internal trigger and no data.
+fn internal_tdh(orbit: u32, bc: u16) -> [u8; 10] {
+    [
+        0,
+        0x30,
+        (bc % 256) as u8,
+        (bc / 256) as u8,
+        (orbit % 256) as u8,
+        (orbit / 256 % 256) as u8,
+        (orbit / 65536 % 256) as u8,
+        (orbit / 16777216) as u8,
+        0,
+        0xE8,
+    ]
+}
+
+// A rule by its number.
+fn rule_of(n: u8) -> Rule {
+    if n == 2 { Rule::Two } else { Rule::One }
+}
+
+// A record, or nothing where none was written.
+fn show_record(code: u64, first: u64, second: u64) {
+    if code != 0 {
+        text(b" ");
+        number(code);
+        text(b" ");
+        number(first);
+        text(b" ");
+        number(second);
+    }
+}
+
+// "Slow scans trigger every third orbit": the records of the second of two internal TDHs, by a rule and a set period.
+fn show_interval(rule: u8, set: u32, orbit: u32, bc: u16, next_orbit: u32, next_bc: u16) {
+    text(b"rule ");
+    number(rule as u64);
+    text(b" set ");
+    number(set as u64);
+    text(b" from ");
+    number(orbit as u64);
+    text(b" ");
+    number(bc as u64);
+    text(b" to ");
+    number(next_orbit as u64);
+    text(b" ");
+    number(next_bc as u64);
+    text(b":");
+    let mut before = [0u64; 24];
+    let begun = packet_by_rule(true, set, rule_of(rule), 0).word(
+        b"\0\0\0\0\0\0\0\0\0\xE0",
+        &mut before,
+    );
+    let earlier = begun.tracker.word(&internal_tdh(orbit, bc), &mut before);
+    let mut out = [0u64; 24];
+    earlier
+        .tracker
+        .word(&internal_tdh(next_orbit, next_bc), &mut out);
+    show_record(out[1], out[2], out[3]);
+    show_record(out[5], out[6], out[7]);
+    text(b"\n");
+}
+
+// By either rule: three orbits on, one orbit on over the turn of the orbit number, and back within the orbit.
+fn show_rules() {
+    show_interval(1, 0, 5, 7, 8, 7);
+    show_interval(1, 10692, 5, 7, 8, 7);
+    show_interval(2, 10692, 5, 7, 8, 7);
+    show_interval(2, 0, 5, 7, 8, 7);
+    show_interval(1, 3564, 4294967295, 0, 0, 0);
+    show_interval(2, 3564, 4294967295, 0, 0, 0);
+    show_interval(2, 1, 4294967295, 3563, 0, 0);
+    show_interval(1, 3563, 7, 5, 7, 4);
+    show_interval(2, 3563, 7, 5, 7, 4);
+}
+
+// By rule 2: the same orbit, differences about 2^31, and the largest period.
+fn show_differences() {
+    show_interval(2, 0, 7, 5, 7, 5);
+    show_interval(2, 3564, 7, 5, 7, 5);
+    show_interval(2, 1, 7, 5, 7, 6);
+    show_interval(2, 198, 0, 0, 1, 198);
+    show_interval(2, 3366, 0, 198, 1, 0);
+    show_interval(2, 0, 0, 0, 2147483647, 0);
+    show_interval(2, 0, 0, 0, 2147483648, 0);
+    show_interval(2, 0, 0, 3563, 2147483648, 0);
+    show_interval(2, 4294967295, 1, 0, 0, 0);
+    show_interval(2, 0, 1, 0, 0, 3563);
+    show_interval(2, 4294967295, 0, 0, 1205097, 1587);
+    show_interval(2, 4294967295, 0, 0, 1205097, 1588);
+    show_interval(1, 4294967295, 0, 0, 1205097, 1587);
+}
+
+// By rule 2: "1045 comes before both".
+fn show_illegal() {
+    show_interval(2, 198, 0, 3366, 0, 3564);
+    show_interval(2, 198, 0, 3564, 1, 198);
+    show_interval(2, 0, 7, 4095, 7, 4095);
+    show_interval(2, 0, 7, 4095, 7, 0);
+    show_interval(2, 0, 8, 0, 7, 3564);
+}
+
 fn main() {
     show_files();
     show_full();
@@ -260,4 +370,7 @@ fn main() {
     show_lane(0x28);
     show_lane(0x29);
     show_lane(0x47);
+    show_rules();
+    show_differences();
+    show_illegal();
 }

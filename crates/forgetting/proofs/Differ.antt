@@ -14,6 +14,7 @@ use Rattle.words.specs.Word.{number, wordOf, bits}
 use Rattle.payload_fsm.specs.Kinds.{kindNumber}
 use Rattle.payload_fsm.specs.Settle.{DataClear, TdtDone, TdhClear, Marker, three-data, short-frame}
 use Rattle.records.specs.Records.{mostRecords, recordWidth, flat, given, Each}
+use Rattle.validators.specs.declared.Rule.the-variants as R
 use Rattle.validators.specs.declared.Settings.{Settings}
 use Rattle.cdp_running.specs.declared.Tracker.{Tracker}
 use Rattle.cdp_running.specs.declared.Told.the-variants.{Taken, Refused}
@@ -57,7 +58,7 @@ header = packet (record { position = 0; orbit = 0; trigger = 0; bc = 0; page = 0
 
 -- A tracker with running checks, frames and a period, that has accepted a packet.
 abbrev pub settings : Settings
-settings = record { running = true; frames = true; periodic = true; period = 198 }
+settings = record { running = true; frames = true; periodic = true; period = 198; rule = R.One }
 
 pub begun : Tracker
 begun = run (startOf settings) (header ∷ [])
@@ -212,7 +213,7 @@ abbrev pub all-three : List Call
 all-three = header ∷ ihw 1 ∷ internal-tdh 0 ∷ cdw 0 ∷ []
 
 pub begun-plain : Tracker
-begun-plain = run (startOf (record { running = false; frames = true; periodic = true; period = 198 })) (header ∷ [])
+begun-plain = run (startOf (record { running = false; frames = true; periodic = true; period = 198; rule = R.One })) (header ∷ [])
 
 pub needs-settings : Needed equal-settings begun begun-plain (short 1 0) (three 1 0) all-three (say 0 0 0 0 0x21 ∷ [])
 unfolding begun begun-plain counted some run answers took tookIn wordsIn packetCall wordCall takenOf recordsOf given flat wordOf number bits
@@ -228,6 +229,30 @@ needs-settings =
       has-internal = refl;
       has-cdw = refl;
       differ = λ e. eqb-false 1 0 refl (ap counted e);
+    }
+
+-- 02, ticket 9, "Demand 3 asks for equal rules in both trackers": with settings that differ in the rule alone. An internal TDH 198 crossings on, but an
+-- orbit later, gets 45 by rule 2 only.
+pub begun-two : Tracker
+begun-two = run (startOf (record { running = true; frames = true; periodic = true; period = 198; rule = R.Two })) (header ∷ [])
+
+abbrev pub an-orbit-on : Call
+an-orbit-on = sayIn mostRecords (0 ∷ 0x10 ∷ 198 ∷ 0 ∷ 1 ∷ 0 ∷ 0 ∷ 0 ∷ 0 ∷ 0xE8 ∷ [])
+
+pub needs-rule : Needed equal-settings begun begun-two (short 1 0) (three 1 0) all-three (tdt-done ∷ an-orbit-on ∷ [])
+unfolding begun begun-two counted some run answers took tookIn wordsIn packetCall wordCall takenOf recordsOf given flat wordOf number bits
+needs-rule =
+    record {
+      settings-equal = tt;
+      marker = ends-short;
+      no-reset = four;
+      marker′ = by-three begun-two (three 1 0) [] 1 0 refl (record { data-id = refl; clear = refl }) (record { data-id = refl; clear = refl }) four;
+      begins = refl;
+      roomy = (tt, (room, (room, (room, (room, (room, tt))))));
+      has-ihw = refl;
+      has-internal = refl;
+      has-cdw = refl;
+      differ = λ e. eqb-false 0 1 refl (ap counted e);
     }
 
 -- Without a marker the first tracker is still in its start state, and takes the three words as IHW, TDH and CDW; the other takes the third as a TDH,

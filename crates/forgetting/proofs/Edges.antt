@@ -33,7 +33,7 @@ three (a ∷ b ∷ c ∷ x ∷ ws) d e h t clear = absurd (omega arith)
 
 -- Either crossing is past the last.
 past : (previous current : ℕ) → illegal previous current ≡ true → Holds (no-period previous current)
-past previous current e set w i c = simp (i, c, e)
+past previous current e rule set orbit w i c = simp (i, c, e)
 
 pub edges : Each Holds table
 unfolding bits worstBelow

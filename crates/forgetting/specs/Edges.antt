@@ -15,6 +15,7 @@ use Rattle.payload_fsm.specs.Settle.{DataClear, TdtDone, stateAfter}
 use Rattle.records.specs.declared.Row.{Row}
 use Rattle.records.specs.Records.{when, Each}
 use Rattle.validators.specs.declared.Settings.{Settings}
+use Rattle.validators.specs.declared.Rule.{Rule}
 use Rattle.validators.specs.declared.InternalTdh.{InternalTdh}
 use Rattle.tdh_validator.specs.Tdh.{period, interval}
 
@@ -26,18 +27,19 @@ pub data Edge : Type 0 where
   status : (byte lane0 lane1 worst : ℕ) → Edge
   from-three : (data-words : ℕ) (leads-there : Bool) → Edge
 
--- Running checks on with a period, and an earlier internal TDH.
-abbrev pub periodic : ℕ → Settings
-periodic n = record { running = true; frames = true; periodic = true; period = n }
+-- Running checks on with a period, by either rule, and an earlier internal TDH.
+abbrev pub periodic : Rule → ℕ → Settings
+periodic rule n = record { running = true; frames = true; periodic = true; period = n; rule = rule }
 
-abbrev pub earlier : ℕ → InternalTdh
-earlier bc = record { stored = true; bc = bc }
+abbrev pub earlier : ℕ → ℕ → InternalTdh
+earlier bc orbit = record { stored = true; bc = bc; orbit = orbit }
 
 -- What a row says of the definitions.
 abbrev pub Holds : Edge → Type 0
 Holds (found previous current n) = period previous current ≡ n
 Holds (no-period previous current) =
-    (set : ℕ) (w : Word) → internalTrigger w ≡ 1 → triggerBc w ≡ current → interval (periodic set) (earlier previous) w ≡ when true 1045 previous current
+    (rule : Rule) (set orbit : ℕ) (w : Word) → internalTrigger w ≡ 1 → triggerBc w ≡ current
+    → interval (periodic rule set) (earlier previous orbit) w ≡ when true 1045 previous current
 Holds (outer-lane id lane) = outerLane id ≡ lane
 Holds (status byte lane0 lane1 worst) =
     let w : Word = record { lo = byte; hi = 0xF000 } in

@@ -2,19 +2,21 @@
 -- Assumes nothing.
 use Prim.Native.Nat.{ℕ, zero, suc, _/_, _%_, _<_, _^_}
 use mathlib.Core.Path.{_≡_, refl, sym, subst}
-use mathlib.Core.Bool.{Bool, true, false, cond}
+use mathlib.Core.Bool.{Bool, true, false, cond, _&&_}
 use mathlib.Core.List.{List}
 use native.Mathlib.Omega.{arith}
 use lib.Dec.{eqb}
 use lib.ListN.{length, take}
 use Rattle.words.specs.declared.Word.{Word}
 use Rattle.words.specs.Word.{wordOf}
+use Rattle.words.specs.Tdh.{internalTrigger}
 use Rattle.words.proofs.Bits.{bits-below}
 use Rattle.payload_fsm.specs.Kinds.{isTdh}
 use Rattle.payload_fsm.proofs.Rows.{choice}
 use Rattle.validators.specs.declared.Settings.{Settings}
 use Rattle.validators.specs.declared.Packet.{Packet}
 use Rattle.validators.specs.declared.StoredTdh.{StoredTdh}
+use Rattle.validators.specs.declared.InternalTdh.{InternalTdh}
 use Rattle.cdp_running.specs.declared.Tracker.{Tracker}
 use Rattle.cdp_running.specs.declared.PacketAnswer.{PacketAnswer}
 use Rattle.cdp_running.specs.Tracker.{Good, startOf, resetOf, acceptOf, inRange, packetCall}
@@ -33,27 +35,33 @@ use Rattle.tracker_array.proofs.Laws.{good-again}
 abbrev pub Kept : Tracker → Type 0
 Kept t = Good t × Sized t
 
-pub kept-start : (s : Settings) → (s .periodic ≡ true → s .period < 2 ^ 16) → Kept (startOf s)
-kept-start s h = (good-start s, record { period = at (s .periodic) h; orbit = omega arith })
+pub kept-start : (s : Settings) → (s .periodic ≡ true → s .period < 2 ^ 32) → Kept (startOf s)
+kept-start s h = (good-start s, record { period = at (s .periodic) h; orbit = omega arith; internal-orbit = omega arith })
   where
-    at : (b : Bool) → (b ≡ true → s .period < 2 ^ 16) → cond b (s .period) 0 < 2 ^ 16
+    at : (b : Bool) → (b ≡ true → s .period < 2 ^ 32) → cond b (s .period) 0 < 2 ^ 32
     at true low = low refl
     at false low = omega arith
 
 -- The orbit of a TDH has 32 bits.
 pub sized-next : (t : Tracker) (w : Word) → Sized t → Sized (nextOf t (takenAs t w) w)
-sized-next t w s = record { period = s .period; orbit = choice (λ (h : StoredTdh). h .orbit < 2 ^ 32) (isTdh (takenAs t w .word)) (bits-below 63 32 w) (s .orbit) }
+sized-next t w s =
+    let tdh = isTdh (takenAs t w .word) in
+    record {
+      period = s .period;
+      orbit = choice (λ (h : StoredTdh). h .orbit < 2 ^ 32) tdh (bits-below 63 32 w) (s .orbit);
+      internal-orbit = choice (λ (i : InternalTdh). i .orbit < 2 ^ 32) (tdh && eqb (internalTrigger w) 1) (bits-below 63 32 w) (s .internal-orbit);
+    }
 
 module _ (t : Tracker) (k : Kept t) where
   pub kept-reset : Kept (resetOf t)
-  kept-reset = (good-reset t (k .0), record { period = k .1 .period; orbit = k .1 .orbit })
+  kept-reset = (good-reset t (k .0), record { period = k .1 .period; orbit = k .1 .orbit; internal-orbit = k .1 .internal-orbit })
 
   pub kept-packet : (p : Packet) → Kept (packetCall t p .tracker)
   unfolding packetCall
   kept-packet p = at (inRange p) refl
     where
       at : (b : Bool) → inRange p ≡ b → Kept (cond {A = PacketAnswer} b (record { tracker = acceptOf t p; refusal = 0 }) (record { tracker = t; refusal = 5 }) .tracker)
-      at true e = (good-accept t p (k .0) e, record { period = k .1 .period; orbit = k .1 .orbit })
+      at true e = (good-accept t p (k .0) e, record { period = k .1 .period; orbit = k .1 .orbit; internal-orbit = k .1 .internal-orbit })
       at false e = k
 
   kept-taken : (bytes : List ℕ) (places : ℕ) (o : Outcome) → wordCall t bytes places ≡ o → Kept (Word.answerOf t o .tracker)

@@ -30,7 +30,7 @@ module _ (a : List ℕ) (h : GoodArray a) where
         let numbers : after ≡ encodeOf (packetCall (trackerIn a) p .tracker) = simp within q in
         record { answer = simp within; numbers = numbers; good = good-after numbers (kept-packet (trackerIn a) (h .good, h .sized) p) }
 
-  pub reset-done : {n : ℕ} → n ≡ 0 → ResetInPlace a (set a 13 n)
+  pub reset-done : {n : ℕ} → n ≡ 0 → ResetInPlace a (set a 14 n)
   reset-done e =
-      let numbers = ap (λ (k : ℕ). set a 13 k) e ∙ resets a h in
+      let numbers = ap (λ (k : ℕ). set a 14 k) e ∙ resets a h in
       record { numbers = numbers; good = good-after numbers (kept-reset (trackerIn a) (h .good, h .sized)) }

@@ -93,11 +93,11 @@ module _ (b : List ℕ) (byte : (i : ℕ) → getD b i 0 < 256) where
 
 -- What is stored after a run, and after none.
 module _ {a b : List ℕ} {at to : ℕ} (q : QuietTo a b at to) where
-  pub some-passed : (to ≡ at → ⊥) → Passed a b at to (set (set a 14 (place a 14 + (to - at) / 10)) 15 1)
+  pub some-passed : (to ≡ at → ⊥) → Passed a b at to (set (set a 15 (place a 15 + (to - at) / 10)) 16 1)
   some-passed h =
       let many : (to - at) / 10 ≡ q .n = omega (arith, q .to-is) in
       let some : q .n ≡ 0 → ⊥ = λ z. h (omega (arith, q .to-is)) in
-      record { quiet = q; numbers = simp (ne-eqb (q .n) 0 some) (ap (λ (n : ℕ). set (set a 14 (place a 14 + n)) 15 1) many) }
+      record { quiet = q; numbers = simp (ne-eqb (q .n) 0 some) (ap (λ (n : ℕ). set (set a 15 (place a 15 + n)) 16 1) many) }
 
   pub none-passed : to ≡ at → Passed a b at to a
   none-passed h = let none : q .n ≡ 0 = omega (arith, q .to-is) in record { quiet = q; numbers = simp (eq-eqb (q .n) 0 none) }

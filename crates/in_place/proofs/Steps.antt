@@ -129,7 +129,7 @@ in-place {a} {bytes} {buffer} {r} {after} {buffer-after} h w e =
     }
 
 -- The word call where the word is ten bytes, a packet was accepted and takes one more.
-module _ (a bytes buffer : List ℕ) (h : GoodArray a) (ten : length bytes ≡ 10) (have : isOn (place a 5) ≡ true) (low : place a 14 < maxWords) where
+module _ (a bytes buffer : List ℕ) (h : GoodArray a) (ten : length bytes ≡ 10) (have : isOn (place a 6) ≡ true) (low : place a 15 < maxWords) where
   abbrev cur : Tracker
   cur = trackerIn a
 
@@ -168,10 +168,10 @@ module _ (a bytes buffer : List ℕ) (h : GoodArray a) (ten : length bytes ≡ 1
   word-quiet byte {to} {after} {told} p some e =
       let q = p .quiet in
       let one : q .n ≡ 1 = omega (arith, q .to-is, q .within) in
-      let id = ap (quietId (checkedLanes (isOn (place a 1)) (place a 17))) (id-byte bytes ten byte) ∙ q .each 0 (omega arith) in
+      let id = ap (quietId (checkedLanes (isOn (place a 1)) (place a 18))) (id-byte bytes ten byte) ∙ q .each 0 (omega arith) in
       let call = quiet-call cur bytes ten have low (q .among (λ z. omega arith)) id (room buffer) in
       let numbers =
-      p .numbers ∙ ap (λ (n : ℕ). cond (eqb n 0) a (set (set a 14 (place a 14 + n)) 15 1)) one ∙ counts a 1 h
+      p .numbers ∙ ap (λ (n : ℕ). cond (eqb n 0) a (set (set a 15 (place a 15 + n)) 16 1)) one ∙ counts a 1 h
       ∙ sym (ap (λ (o : Outcome). encodeOf (answerOf cur o .tracker)) call) in
       record {
         answer = e ∙ sym (ap (λ (o : Outcome). answerOf cur o .told) call);
@@ -182,9 +182,9 @@ module _ (a bytes buffer : List ℕ) (h : GoodArray a) (ten : length bytes ≡ 1
 
   -- Any other word: the numbers are still as they were.
   module _ {to : ℕ} {l : List ℕ} (p : Passed a bytes 0 to l) (none : to ≡ 0) where
-    pub still-takes : GoodArray l × ((length bytes ≡ 10) × ((isOn (place l 5) ≡ true) × (place l 14 < maxWords)))
+    pub still-takes : GoodArray l × ((length bytes ≡ 10) × ((isOn (place l 6) ≡ true) × (place l 15 < maxWords)))
     still-takes =
-        subst (λ (x : List ℕ). GoodArray x × ((length bytes ≡ 10) × ((isOn (place x 5) ≡ true) × (place x 14 < maxWords)))) (sym (untouched p none)) (h, (ten, (have, low)))
+        subst (λ (x : List ℕ). GoodArray x × ((length bytes ≡ 10) × ((isOn (place x 6) ≡ true) × (place x 15 < maxWords)))) (sym (untouched p none)) (h, (ten, (have, low)))
 
     pub as-before : {told : Told} {after buffer-after : List ℕ} → WordInPlace l bytes buffer told after buffer-after → WordInPlace a bytes buffer told after buffer-after
     as-before {told} {after} {buffer-after} w = subst (λ (x : List ℕ). WordInPlace x bytes buffer told after buffer-after) (untouched p none) w
@@ -194,8 +194,8 @@ module _ (a bytes buffer : List ℕ) (h : GoodArray a) where
   pub word-refused-1 : (length bytes ≡ 10 → ⊥) → WordInPlace a bytes buffer (T.Refused 1) a buffer
   word-refused-1 e = in-place h (word-1 (trackerIn a) bytes buffer (h .good) (ne-eqb _ _ e) refl) (h .own)
 
-  pub word-refused-2 : length bytes ≡ 10 → isOn (place a 5) ≡ false → WordInPlace a bytes buffer (T.Refused 2) a buffer
+  pub word-refused-2 : length bytes ≡ 10 → isOn (place a 6) ≡ false → WordInPlace a bytes buffer (T.Refused 2) a buffer
   word-refused-2 ten e = in-place h (word-2 (trackerIn a) bytes buffer (h .good) (eq-eqb _ _ ten) e refl) (h .own)
 
-  pub word-refused-3 : length bytes ≡ 10 → isOn (place a 5) ≡ true → maxWords ≤ place a 14 → WordInPlace a bytes buffer (T.Refused 3) a buffer
+  pub word-refused-3 : length bytes ≡ 10 → isOn (place a 6) ≡ true → maxWords ≤ place a 15 → WordInPlace a bytes buffer (T.Refused 3) a buffer
   word-refused-3 ten have e = in-place h (word-3 (trackerIn a) bytes buffer (h .good) (eq-eqb _ _ ten) have e refl) (h .own)

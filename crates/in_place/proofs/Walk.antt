@@ -54,7 +54,7 @@ module _ {a₀ b out₀ : List ℕ} where
         good = good-after e (g .ready .good, s);
       }
 
-  pub walk-start : GoodArray a₀ → isOn (place a₀ 5) ≡ true → length b % 10 ≡ 0 → Walk a₀ b out₀ a₀ out₀ 0 0
+  pub walk-start : GoodArray a₀ → isOn (place a₀ 6) ≡ true → length b % 10 ≡ 0 → Walk a₀ b out₀ a₀ out₀ 0 0
   walk-start h have whole =
       record { going = Loop.start (record { good = h .good; accepted = have; whole = whole; within = omega arith; between = refl }); good = h }
 
@@ -72,7 +72,7 @@ module _ {a₀ b out₀ : List ℕ} where
   pub payload-1 : {r : PayloadTold} → GoodArray a₀ → (length b % 10 ≡ 0 → ⊥) → r ≡ record { words = 0; records = 0; refusal = 1 } → PayloadInPlace a₀ b out₀ r a₀ out₀
   payload-1 h e p = told-it p h (refused-1 (h .good) e)
 
-  pub payload-2 : {r : PayloadTold} → GoodArray a₀ → length b % 10 ≡ 0 → isOn (place a₀ 5) ≡ false → r ≡ record { words = 0; records = 0; refusal = 2 } → PayloadInPlace a₀ b out₀ r a₀ out₀
+  pub payload-2 : {r : PayloadTold} → GoodArray a₀ → length b % 10 ≡ 0 → isOn (place a₀ 6) ≡ false → r ≡ record { words = 0; records = 0; refusal = 2 } → PayloadInPlace a₀ b out₀ r a₀ out₀
   payload-2 h whole e p = told-it p h (refused-2 (h .good) whole e)
 
   module _ {a out : List ℕ} {at used : ℕ} (k : Walk a₀ b out₀ a out at used) where
@@ -89,8 +89,8 @@ module _ {a₀ b out₀ : List ℕ} where
         place-is : (n : ℕ) → p .quiet .n ≡ n → to ≡ at + 10 * n
         place-is n e = p .quiet .to-is ∙ ap (λ (m : ℕ). at + 10 * m) e
 
-        numbers-are : (n : ℕ) → p .quiet .n ≡ n → l ≡ cond (eqb n 0) a (set (set a 14 (place a 14 + n)) 15 1)
-        numbers-are n e = p .numbers ∙ ap (λ (m : ℕ). cond (eqb m 0) a (set (set a 14 (place a 14 + m)) 15 1)) e
+        numbers-are : (n : ℕ) → p .quiet .n ≡ n → l ≡ cond (eqb n 0) a (set (set a 15 (place a 15 + n)) 16 1)
+        numbers-are n e = p .numbers ∙ ap (λ (m : ℕ). cond (eqb m 0) a (set (set a 15 (place a 15 + m)) 16 1)) e
 
         by : (n : ℕ) → p .quiet .n ≡ n → Walk a₀ b out₀ l out to used
         by zero e =
@@ -103,7 +103,7 @@ module _ {a₀ b out₀ : List ℕ} where
             let room : u .count + suc n ≤ maxWords = omega (arith, q .room) in
             let fits : at + 10 * suc n ≤ length b = omega (arith, q .within, place-is (suc n) e) in
             subst (λ (j : ℕ). Walk a₀ b out₀ l out j used) (sym (place-is (suc n) e))
-            (at-tracker (quietNext u (suc n)) ((simp (ne-eqb (suc n) 0 (λ z. omega arith)) at (numbers-are (suc n) e)) ∙ counts a (suc n) (k .good)) (record { period = s .period; orbit = s .orbit })
+            (at-tracker (quietNext u (suc n)) ((simp (ne-eqb (suc n) 0 (λ z. omega arith)) at (numbers-are (suc n) e)) ∙ counts a (suc n) (k .good)) (record { period = s .period; orbit = s .orbit; internal-orbit = s .internal-orbit })
             (further-silent (k .going) (suc n)
             (record { good = good-quiet u (suc n) (k .good .good) (r .accepted) room; accepted = r .accepted; whole = r .whole; within = fits; between = omega (arith, r .between) })
             (quiet-runs b byte u at n (r .accepted) fits room (q .among (λ z. omega arith)) (λ i h. q .each i (omega arith)))))
@@ -122,14 +122,14 @@ module _ {a₀ b out₀ : List ℕ} where
       on-part : {r : WordAnswer} {y : List ℕ} → WordPost (trackerIn a) bytes tail r y → WordPost (trackerIn a) (take 10 (midOf at (length b - at) b)) tail r y
       on-part {r} {y} w = subst (λ (l : List ℕ). WordPost (trackerIn a) (take 10 l) tail r y) (sym (mid-tail at b)) w
 
-      pub payload-3 : {r : PayloadTold} → maxWords ≤ place a 14 → r ≡ record { words = at / 10; records = used / 4; refusal = 3 } → PayloadInPlace a₀ b out₀ r a out
+      pub payload-3 : {r : PayloadTold} → maxWords ≤ place a 15 → r ≡ record { words = at / 10; records = used / 4; refusal = 3 } → PayloadInPlace a₀ b out₀ r a out
       payload-3 h p =
           let w : WordPost (trackerIn a) bytes tail (answerOf (trackerIn a) (refused 3)) tail = word-3 (trackerIn a) bytes tail (k .good .good) (eq-eqb _ _ ten) (k .going .ready .accepted) h refl in
           told-it p (k .good)
           (subst (λ (l : List ℕ). PayloadPost (trackerIn a₀) b out₀ (record { tracker = trackerIn a; words = at / 10; records = used / 4; refusal = 3 }) l) (back used (length out - used) out)
           (stopped (k .going) lt (on-part w) refl))
 
-      module _ (low : place a 14 < maxWords) {l y : List ℕ} where
+      module _ (low : place a 15 < maxWords) {l y : List ℕ} where
         pub walk-word : {n : ℕ} → StepInPlace a (wordOf bytes) tail (Records n) l y → length y ≡ length tail
             → Walk a₀ b out₀ l (putMid used (length out - used) out y) (at + 10) (used + 4 * n)
         walk-word s kept =

@@ -43,11 +43,11 @@ pub record QuietTo (a bytes : List ℕ) (at to : ℕ) : Type 0 where
   pub n : ℕ
   pub to-is : to ≡ at + wordBytes * n
   pub within : to ≤ length bytes
-  pub room : place a 14 + n ≤ maxWords
+  pub room : place a 15 + n ≤ maxWords
   pub among : (n ≡ 0 → ⊥) → amongData (trackerIn a .fsm .state) ≡ true
-  pub each : (i : ℕ) → i < n → quietId (checkedLanes (isOn (place a 1)) (place a 17)) (idAt bytes at i) ≡ true
+  pub each : (i : ℕ) → i < n → quietId (checkedLanes (isOn (place a 1)) (place a 18)) (idAt bytes at i) ≡ true
 
 -- They are taken: they are counted, and data is seen.
 pub record Passed (a bytes : List ℕ) (at to : ℕ) (after : List ℕ) : Type 0 where
   pub quiet : QuietTo a bytes at to
-  pub numbers : after ≡ cond (eqb (quiet .n) 0) a (set (set a 14 (place a 14 + quiet .n)) 15 1)
+  pub numbers : after ≡ cond (eqb (quiet .n) 0) a (set (set a 15 (place a 15 + quiet .n)) 16 1)

@@ -83,7 +83,7 @@ fn quiet_told() -> Told
 // A word that is not refused with 1, 2 or 3.
 fn taken_word(a: &mut [u64], bytes: &[u8], out: &mut [u64]) -> Told
     requires { ⌜ GoodArray (now a) ⌝ }
-    requires { ⌜ (length (now bytes) ≡ wordBytes) × ((isOn (place (now a) 5) ≡ true) × (place (now a) 14 < maxWords)) ⌝ }
+    requires { ⌜ (length (now bytes) ≡ wordBytes) × ((isOn (place (now a) 6) ≡ true) × (place (now a) 15 < maxWords)) ⌝ }
     ensures { λ r. ⌜ WordInPlace (now (a .entry)) (now (bytes .entry)) (now (out .entry)) r (now (a .exit)) (now (out .exit)) ⌝ }
 {
     let word = step::load_at(bytes, 0);

@@ -35,6 +35,19 @@ fn put_if(b: bool, at: usize, x: u64, y: u64, a: &mut [u64])
     }
 }
 
+// Three numbers at a place, if so.
+fn put_three_if(b: bool, at: usize, x: u64, y: u64, z: u64, a: &mut [u64])
+    requires { ⌜ length (now a) ≡ size ⌝ }
+    requires { ⌜ at + 3 ≤ size ⌝ }
+    ensures { λ _. ⌜ now (a .exit) ≡ putIf b at (x ∷ y ∷ z ∷ []) (now (a .entry)) ⌝ }
+{
+    if b {
+        a[at] = x;
+        a[at + 1] = y;
+        a[at + 2] = z;
+    }
+}
+
 fn ihw(a: &mut [u64], word: Word)
     requires { ⌜ length (now a) ≡ size ⌝ }
     ensures { λ _. ⌜ now (a .exit) ≡ ihwStores word (now (a .entry)) ⌝ }
@@ -46,7 +59,7 @@ fn ihw(a: &mut [u64], word: Word)
 
 fn tdh_fields(a: &mut [u64], word: Word)
     requires { ⌜ length (now a) ≡ size ⌝ }
-    ensures { λ _. ⌜ now (a .exit) ≡ sets (now (a .entry)) 18 (1 ∷ triggerType word ∷ triggerBc word ∷ triggerOrbit word ∷ []) ⌝ }
+    ensures { λ _. ⌜ now (a .exit) ≡ sets (now (a .entry)) 19 (1 ∷ triggerType word ∷ triggerBc word ∷ triggerOrbit word ∷ []) ⌝ }
 {
     let tdh = Tdh { word: word };
     a[place::TDH] = 1;
@@ -61,11 +74,12 @@ fn tdh(a: &mut [u64], word: Word, here: u64)
 {
     let tdh = Tdh { word: word };
     let bc = tdh.trigger_bc() as u64;
+    let orbit = tdh.trigger_orbit() as u64;
     let first = tdh.continuation() == 0;
     let internal = tdh.internal_trigger() == 1;
     let opens = (a[place::FRAMES] == 1) & (!(a[place::LIVE] == 1) & first);
     tdh_fields(a, word);
-    put_if(internal, place::INTERNAL, 1, bc, a);
+    put_three_if(internal, place::INTERNAL, 1, bc, orbit, a);
     put_if(opens, place::LIVE, 1, here, a);
 }
 
@@ -92,8 +106,8 @@ fn tdt(a: &mut [u64], word: Word)
 // State and count.
 fn moved(a: &mut [u64], state: State)
     requires { ⌜ length (now a) ≡ size ⌝ }
-    requires { ⌜ place (now a) 14 < maxWords ⌝ }
-    ensures { λ _. ⌜ now (a .exit) ≡ sets (now (a .entry)) 13 (stateNumber state ∷ (place (now (a .entry)) 14 + 1) ∷ []) ⌝ }
+    requires { ⌜ place (now a) 15 < maxWords ⌝ }
+    ensures { λ _. ⌜ now (a .exit) ≡ sets (now (a .entry)) 14 (stateNumber state ∷ (place (now (a .entry)) 15 + 1) ∷ []) ⌝ }
 {
     let count = a[place::COUNT] + 1;
     a[place::STATE] = states::state_number(state);
@@ -103,7 +117,7 @@ fn moved(a: &mut [u64], state: State)
 // The numbers after a word that is taken as `taken` says.
 pub(crate) fn word(a: &mut [u64], taken: Advanced, word: Word, here: u64)
     requires { ⌜ GoodArray (now a) ⌝ }
-    requires { ⌜ place (now a) 14 < maxWords ⌝ }
+    requires { ⌜ place (now a) 15 < maxWords ⌝ }
     requires { ⌜ here ≡ positionNow (trackerIn (now a)) ⌝ }
     ensures { λ _. ⌜ now (a .exit) ≡ encodeOf (nextOf (trackerIn (now (a .entry))) taken word) ⌝ }
 {

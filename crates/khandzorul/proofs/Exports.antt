@@ -7,13 +7,14 @@ use mathlib.Core.List.{List}
 use lib.ListN.{length}
 use borrow.Author.Tests.{eqb-true, eq-eqb, ne-eqb, not-true, not-false}
 use Rattle.words.proofs.Tests.{tests}
+use Rattle.validators.specs.declared.Rule.{Rule}
 use Rattle.validators.specs.declared.Packet.{Packet}
 use Rattle.cdp_running.specs.declared.Tracker.{Tracker}
 use Rattle.cdp_running.specs.declared.Told.{Told}
 use Rattle.cdp_running.specs.declared.Told.the-variants.{Refused}
 use Rattle.cdp_running.specs.Tracker.{startOf}
 use Rattle.tracker_array.specs.Array.{writtenTo}
-use Rattle.tracker_array.specs.Read.{isOn, trackerIn, isTracker, Is, Not, decodeOf}
+use Rattle.tracker_array.specs.Read.{isOn, ruleOf, trackerIn, isTracker, Is, Not, decodeOf}
 use Rattle.tracker_array.specs.Good.{GoodArray}
 use Rattle.tracker_array.proofs.Laws.{is-tracker, no-tracker, good-array}
 use Rattle.in_place.specs.declared.PayloadTold.{PayloadTold}
@@ -24,14 +25,14 @@ use Rattle.khandzorul.specs.Calls.{Asked, maxPeriod, areSettings, StartO
 
 -- A period of settings fits, where there is one.
 pub period-fits : (s : Asked) → areSettings s ≡ true → isOn (s .periodic) ≡ true → s .period ≤ maxPeriod
-period-fits s e on = let (running, (frames, (periodic, low))) = simp tests at e in low (eqb-true _ _ on)
+period-fits s e on = let (running, (frames, (periodic, (low, rule)))) = simp tests at e in low (eqb-true _ _ on)
 
 -- The start keeps nothing of a period that is absent.
-absent : (running frames periodic : Bool) (m : ℕ) {n : ℕ} → n ≡ cond periodic m 0
-    → startOf (record { running = running; frames = frames; periodic = periodic; period = n })
-    ≡ startOf (record { running = running; frames = frames; periodic = periodic; period = m })
-absent running frames true m e = ap (λ (k : ℕ). startOf (record { running = running; frames = frames; periodic = true; period = k })) e
-absent running frames false m e = refl
+absent : (running frames periodic : Bool) (m : ℕ) (rule : Rule) {n : ℕ} → n ≡ cond periodic m 0
+    → startOf (record { running = running; frames = frames; periodic = periodic; period = n; rule = rule })
+    ≡ startOf (record { running = running; frames = frames; periodic = periodic; period = m; rule = rule })
+absent running frames true m rule e = ap (λ (k : ℕ). startOf (record { running = running; frames = frames; periodic = true; period = k; rule = rule })) e
+absent running frames false m rule e = refl
 
 stays : (b : Bool) (a : List ℕ) → a ≡ cond b a a
 stays true a = refl
@@ -48,14 +49,19 @@ module _ (a : List ℕ) (s : Asked) where
     pub settings-fit : not r ≡ false → isOn (s .periodic) ≡ true → s .period ≤ maxPeriod
     settings-fit e = period-fits s (sym asked ∙ not-false r e)
 
-    pub start-done : {t : Tracker} {n : ℕ} {after : List ℕ} → not r ≡ false → n ≡ cond (isOn (s .periodic)) (s .period) 0
-        → t ≡ startOf (record { running = isOn (s .running); frames = isOn (s .frames); periodic = isOn (s .periodic); period = n }) → after ≡ writtenTo a t
-        → StartOn a s 0 after
-    start-done e k p q =
+    pub start-done : {t : Tracker} {n : ℕ} {rule : Rule} {after : List ℕ} → not r ≡ false → n ≡ cond (isOn (s .periodic)) (s .period) 0 → rule ≡ ruleOf (s .rule)
+        → t ≡ startOf (record { running = isOn (s .running); frames = isOn (s .frames); periodic = isOn (s .periodic); period = n; rule = rule })
+        → after ≡ writtenTo a t → StartOn a s 0 after
+    start-done {t} {n} e k j p q =
         let yes = sym asked ∙ not-false r e in
         record {
           answer = simp (eq-eqb _ _ long, yes);
-          tracker = simp yes (q ∙ ap (writtenTo a) (p ∙ absent (isOn (s .running)) (isOn (s .frames)) (isOn (s .periodic)) (s .period) k));
+          tracker =
+              simp yes
+              (q
+              ∙ ap (writtenTo a)
+              (p ∙ (λ i. startOf (record { running = isOn (s .running); frames = isOn (s .frames); periodic = isOn (s .periodic); period = n; rule = j i }))
+              ∙ absent (isOn (s .running)) (isOn (s .frames)) (isOn (s .periodic)) (s .period) (ruleOf (s .rule)) k));
         }
 
 -- Whether numbers are a tracker, as the code asks it: r is its answer.

@@ -18,7 +18,7 @@ use Rattle.cdp_running.specs.Word.{wordCall, recordsIn}
 use Rattle.payload.specs.Payload as Payload
 use Rattle.payload.specs.Payload.{payloadCall}
 use Rattle.tracker_array.specs.Array.{size, encodeOf, writtenTo}
-use Rattle.tracker_array.specs.Read.{isOn, isFlag, Decoded, Is, Not, decodeOf}
+use Rattle.tracker_array.specs.Read.{isOn, isFlag, isRule, ruleOf, Decoded, Is, Not, decodeOf}
 use Rattle.khandzorul.specs.declared.WordNumbers.{WordNumbers}
 use Rattle.khandzorul.specs.declared.PayloadNumbers.{PayloadNumbers}
 use Rattle.khandzorul.specs.Answer.{noTracker, noSettings, toldNumbers, paidNumbers}
@@ -28,23 +28,34 @@ abbrev pub on : {A : Type 0} → Decoded → A → (Tracker → A) → A
 on (Is t) none call = call t
 on Not none call = none
 
--- What khz_start is asked for, as it comes in: four numbers.
+-- What khz_start is asked for, as it comes in: five numbers.
 pub record Asked : Type 0 where
   pub running : ℕ
   pub frames : ℕ
   pub periodic : ℕ
   pub period : ℕ
+  pub rule : ℕ
 
--- "Settings, fixed at the start: running checks on or off, frames on or off, period absent or 0..65535."
+-- "Settings, fixed at the start: running checks on or off, frames on or off, period absent or" up to its largest; 02, ticket 9: "periods up to
+-- 4,294,967,295 under either rule".
 abbrev pub maxPeriod : ℕ
-maxPeriod = 65535
+maxPeriod = 4294967295
 
 abbrev pub areSettings : Asked → Bool
 areSettings s =
-    isFlag (s .running) && (isFlag (s .frames) && (isFlag (s .periodic) && (not (isOn (s .periodic)) || leb (s .period) maxPeriod)))
+    isFlag (s .running)
+    && (isFlag (s .frames)
+    && (isFlag (s .periodic) && ((not (isOn (s .periodic)) || leb (s .period) maxPeriod) && isRule (s .rule))))
 
 abbrev pub settingsFrom : Asked → Settings
-settingsFrom s = record { running = isOn (s .running); frames = isOn (s .frames); periodic = isOn (s .periodic); period = s .period }
+settingsFrom s =
+    record {
+      running = isOn (s .running);
+      frames = isOn (s .frames);
+      periodic = isOn (s .periodic);
+      period = s .period;
+      rule = ruleOf (s .rule);
+    }
 
 -- khz_start: a tracker, whatever stood there. 100 comes first, then 101; either leaves the array.
 pub record StartOn (a : List ℕ) (s : Asked) (r : ℕ) (after : List ℕ) : Type 0 where

@@ -12,6 +12,7 @@ pub mod status;
 pub mod write;
 
 use cdp_running::Tracker;
+use tracker_array::rules;
 use validators::Settings;
 
 // What was handed in is no tracker.
@@ -21,7 +22,7 @@ pub const NO_TRACKER: u64 = 100;
 pub const NO_SETTINGS: u64 = 101;
 
 // The largest period.
-const MAX_PERIOD: u64 = 65535;
+const MAX_PERIOD: u64 = 4_294_967_295;
 
 // khz_word_answer
 #[repr(C)]
@@ -44,20 +45,22 @@ pub struct PayloadNumbers {
     pub records: u64,
 }
 
-// Whether numbers are settings: flags that are 0 or 1, and a period that fits where there is one.
-fn are_settings(running: u64, frames: u64, periodic: u64, period: u64) -> bool
-    ensures { λ r. ⌜ r ≡ areSettings (record { running = running; frames = frames; periodic = periodic; period = period }) ⌝ }
+// Whether numbers are settings: flags that are 0 or 1, a period that fits where there is one, and a rule.
+fn are_settings(running: u64, frames: u64, periodic: u64, period: u64, rule: u64) -> bool
+    ensures { λ r. ⌜ r ≡ areSettings (record { running = running; frames = frames; periodic = periodic; period = period; rule = rule }) ⌝ }
 {
     (running <= 1)
-        & ((frames <= 1) & ((periodic <= 1) & (!(periodic == 1) | (period <= MAX_PERIOD))))
+        & ((frames <= 1)
+            & ((periodic <= 1)
+                & ((!(periodic == 1) | (period <= MAX_PERIOD)) & rules::is_rule(rule))))
 }
 
 // The period that is kept: none is 0.
-fn period_of(periodic: u64, period: u64) -> u16
+fn period_of(periodic: u64, period: u64) -> u32
     requires { ⌜ (isOn periodic ≡ true → period ≤ maxPeriod) ⌝ }
     ensures { λ r. ⌜ r ≡ cond (isOn periodic) period 0 ⌝ }
 {
-    if periodic == 1 { period as u16 } else { 0 }
+    if periodic == 1 { period as u32 } else { 0 }
 }
 
 // Makes a tracker, whatever stood in the array.
@@ -68,13 +71,14 @@ pub extern "C" fn khz_start(
     frames: u64,
     periodic: u64,
     period: u64,
+    rule: u64,
 ) -> u64
-    ensures { λ r. ⌜ StartOn (now (tracker .entry)) (record { running = running; frames = frames; periodic = periodic; period = period }) r (now (tracker .exit)) ⌝ }
+    ensures { λ r. ⌜ StartOn (now (tracker .entry)) (record { running = running; frames = frames; periodic = periodic; period = period; rule = rule }) r (now (tracker .exit)) ⌝ }
 {
     if tracker.len() != tracker_array::SIZE {
         return NO_TRACKER;
     }
-    if !are_settings(running, frames, periodic, period) {
+    if !are_settings(running, frames, periodic, period, rule) {
         return NO_SETTINGS;
     }
     let settings = Settings {
@@ -82,6 +86,7 @@ pub extern "C" fn khz_start(
         frames: frames == 1,
         periodic: periodic == 1,
         period: period_of(periodic, period),
+        rule: rules::rule_of(rule),
     };
     tracker_array::encode(Tracker::start(settings), tracker);
     0

@@ -7,6 +7,7 @@ use mathlib.Core.List.{List, [], _∷_}
 use lib.Count.{ones}
 use Rattle.words.specs.Word.{number, wordOf, bits}
 use Rattle.records.specs.Records.{flat, given}
+use Rattle.validators.specs.declared.Rule.the-variants as R
 use Rattle.validators.specs.declared.Settings.{Settings}
 use Rattle.validators.specs.declared.Packet.{Packet}
 use Rattle.cdp_running.specs.Tracker.{startOf, packetCall}
@@ -17,7 +18,7 @@ use Rattle.payload.specs.Payload.{wordsFrom, payloadCall, wordCalls, pay
 
 -- Running checks and frames on, period 198.
 pub settings : Settings
-settings = record { running = true; frames = true; periodic = true; period = 198 }
+settings = record { running = true; frames = true; periodic = true; period = 198; rule = R.One }
 
 pub packet : Packet
 packet = record { position = 0; orbit = 7; trigger = 0x10; bc = 0x0DEC; page = 0; stop = 0; format = 2 }

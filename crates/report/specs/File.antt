@@ -8,6 +8,7 @@ use lib.Dec.{eqb}
 use lib.ListN.{length}
 use Rattle.words.specs.Word.{wordOf}
 use Rattle.records.specs.Records.{Record, mostRecords}
+use Rattle.validators.specs.declared.Rule.the-variants as R
 use Rattle.validators.specs.declared.Settings.{Settings}
 use Rattle.cdp_running.specs.declared.Tracker.{Tracker}
 use Rattle.cdp_running.specs.Tracker.{startOf, packetCall}
@@ -18,7 +19,7 @@ use Rattle.report.specs.Text.{heading, lines, recordsLine, refusedLine}
 
 -- "running checks and frames on, period 198"
 abbrev pub settings : Settings
-settings = record { running = true; frames = true; periodic = true; period = 198 }
+settings = record { running = true; frames = true; periodic = true; period = 198; rule = R.One }
 
 -- A packet call or a word call, with room for all records that a word gives: the tracker after it, and its records.
 abbrev pub trackerAfter : Tracker → Item → Tracker

@@ -14,6 +14,7 @@ use bench_file::Found;
 use cdp_running::Told;
 use cdp_running::Tracker;
 use validators::Packet;
+use validators::Rule;
 use validators::Settings;
 use words::Word;
 
@@ -21,7 +22,7 @@ use words::Word;
 pub const MOST: usize = records::MOST * records::WIDTH * 21;
 
 // The period that is set.
-pub const PERIOD: u16 = 198;
+pub const PERIOD: u32 = 198;
 
 // What is printed next: the heading, the lines of a packet or word or the number of all records, the refusal, or nothing more.
 pub enum Stage {
@@ -198,6 +199,7 @@ impl Report {
                 frames: true,
                 periodic: true,
                 period: PERIOD,
+                rule: Rule::One,
             }),
             packet: 0,
             word: 0,

@@ -28,9 +28,10 @@ abbrev pub nextTdh : ItsPayloadWord → Word → StoredTdh → StoredTdh
 nextTdh kind w old =
     cond (isTdh kind) (record { stored = true; trigger = triggerType w; bc = triggerBc w; orbit = triggerOrbit w }) old
 
--- "this TDH is internal and an earlier one was (the last such)"
+-- "this TDH is internal and an earlier one was (the last such)"; 02, ticket 9: with its orbit.
 abbrev pub nextInternal : ItsPayloadWord → Word → InternalTdh → InternalTdh
-nextInternal kind w old = cond (isTdh kind && eqb (internalTrigger w) 1) (record { stored = true; bc = triggerBc w }) old
+nextInternal kind w old =
+    cond (isTdh kind && eqb (internalTrigger w) 1) (record { stored = true; bc = triggerBc w; orbit = triggerOrbit w }) old
 
 -- "with no data seen yet in this packet and id 0xF8: .. then it is stored"
 abbrev pub nextCdw : ItsPayloadWord → Bool → Word → StoredCdw → StoredCdw

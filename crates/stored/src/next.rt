@@ -54,6 +54,7 @@ pub fn internal(kind: ItsPayloadWord, word: Word, old: InternalTdh) -> InternalT
         InternalTdh {
             stored: true,
             bc: tdh.trigger_bc(),
+            orbit: tdh.trigger_orbit(),
         }
     } else {
         old

@@ -1,2 +1,3 @@
 pub mod Period
+pub mod Orbits
 pub mod Chain

@@ -2,16 +2,18 @@
 -- Assumes nothing.
 use Prim.Native.Nat.{ℕ, _+_, _%_, _<_}
 use mathlib.Core.Path.{_≡_}
-use mathlib.Core.Bool.{true}
+use mathlib.Core.Bool.{true, false, _&&_}
 use native.Mathlib.Omega.{arith}
 use borrow.Author.Tests.{le-ltb}
 use Rattle.words.specs.declared.Word.{Word}
-use Rattle.words.specs.Tdh.{maxBc, triggerBc}
+use Rattle.words.specs.Tdh.{maxBc, triggerBc, triggerOrbit}
 use Rattle.records.specs.Records.{when}
+use Rattle.validators.specs.declared.Rule.the-variants as R
 use Rattle.validators.specs.declared.Settings.{Settings}
 use Rattle.validators.specs.declared.InternalTdh.{InternalTdh}
+use Rattle.validators.specs.Rule.{countsOrbits}
 use Rattle.validators.specs.Detail.{differ}
-use Rattle.tdh_validator.specs.Tdh.{Legal, crossings, IsPeriod, period, asked, interval}
+use Rattle.tdh_validator.specs.Tdh.{Legal, crossings, IsPeriod, period, orbitDifference, ranBack, foundBy, asked, interval}
 
 module _ (previous current : ℕ) (legal : Legal previous) (legal′ : Legal current) where
   pub period-is : IsPeriod previous current (period previous current)
@@ -24,7 +26,16 @@ module _ (previous current : ℕ) (legal : Legal previous) (legal′ : Legal cur
   pub never-3564 : period previous current ≡ 3564 → ⊥
   never-3564 e = omega (arith, period-is .below)
 
--- What a record tells of an interval that is looked at, between legal crossings: 45 gives it as its first number; without 45 it is the set period.
-pub period-told : (s : Settings) (earlier : InternalTdh) (w : Word) → Legal (earlier .bc) → Legal (triggerBc w) → asked s earlier w ≡ true
+-- What a record tells of an interval that is looked at, between legal crossings and, by rule 2, where time did not run back: 45 gives it as its first
+-- number; without 45 it is the set period.
+pub found-told : (s : Settings) (earlier : InternalTdh) (w : Word) → Legal (earlier .bc) → Legal (triggerBc w) → asked s earlier w ≡ true
+    → (countsOrbits (s .rule) && ranBack (orbitDifference (earlier .orbit) (triggerOrbit w)) (earlier .bc) (triggerBc w)) ≡ false
+    → let found = foundBy (s .rule) (orbitDifference (earlier .orbit) (triggerOrbit w)) (earlier .bc) (triggerBc w) in
+    interval s earlier w ≡ when (differ found (s .period)) 45 found (s .period)
+found-told s earlier w legal legal′ looked onward =
+    simp (le-ltb maxBc (earlier .bc) legal, le-ltb maxBc (triggerBc w) legal′, looked, onward)
+
+-- By rule 1 that is the found period, whatever the orbits.
+pub period-told : (s : Settings) (earlier : InternalTdh) (w : Word) → s .rule ≡ R.One → Legal (earlier .bc) → Legal (triggerBc w) → asked s earlier w ≡ true
     → interval s earlier w ≡ when (differ (period (earlier .bc) (triggerBc w)) (s .period)) 45 (period (earlier .bc) (triggerBc w)) (s .period)
-period-told s earlier w legal legal′ looked = simp (le-ltb maxBc (earlier .bc) legal, le-ltb maxBc (triggerBc w) legal′, looked)
+period-told s earlier w one legal legal′ looked = simp (one, le-ltb maxBc (earlier .bc) legal, le-ltb maxBc (triggerBc w) legal′, looked)

@@ -1,19 +1,21 @@
 -- 01, "Records": the three kinds of TDH, and the interval.
 -- Assumes nothing.
-use Prim.Native.Nat.{ℕ, _+_, _-_, _/_, _%_, _^_, _≤_, _<_}
+use Prim.Native.Nat.{ℕ, _+_, _-_, _*_, _/_, _%_, _^_, _≤_, _<_}
 use mathlib.Core.Path.{_≡_}
-use mathlib.Core.Bool.{Bool, cond, _&&_, _||_}
+use mathlib.Core.Bool.{Bool, true, cond, _&&_, _||_}
 use mathlib.Core.List.{List, [], _∷_}
-use lib.Dec.{ltb, eqb}
+use lib.Dec.{leb, ltb, eqb}
 use Rattle.words.specs.declared.Word.{Word}
 use Rattle.words.specs.Word.{idOf, slice}
 use Rattle.words.specs.Tdh.{tdhId, maxBc, triggerType, internalTrigger, continuation, triggerBc, triggerOrbit, isReserved0}
 use Rattle.records.specs.declared.Row.{Row}
-use Rattle.records.specs.Records.{when}
+use Rattle.records.specs.Records.{when, none}
+use Rattle.validators.specs.declared.Rule.{Rule}
 use Rattle.validators.specs.declared.Settings.{Settings}
 use Rattle.validators.specs.declared.Packet.{Packet}
 use Rattle.validators.specs.declared.StoredTdh.{StoredTdh}
 use Rattle.validators.specs.declared.InternalTdh.{InternalTdh}
+use Rattle.validators.specs.Rule.{countsOrbits}
 use Rattle.validators.specs.Detail.{detailed, differ}
 
 -- "TDH: 40 (1 id alone; else 2 reserved plus 4 type and internal both 0)."
@@ -43,19 +45,46 @@ period previous current = (current + (crossings - previous % crossings)) % cross
 abbrev pub illegal : ℕ → ℕ → Bool
 illegal previous current = ltb maxBc previous || ltb maxBc current
 
--- "Interval: if a period is set, this TDH is internal and an earlier one was (the last such): when either BC is above 3563, 1045 (previous, current);
--- else 45 if the period differs (found, set)."
+-- 02, ticket 9: "the orbit number turns over from 4,294,967,295 to 0, and the difference must carry on across it": the one number of 32 bits that added
+-- to the previous orbit gives the current one modulo 2^32.
+pub record IsOrbitDifference (previous current n : ℕ) : Type 0 where
+  pub below : n < 2 ^ 32
+  pub meets : (previous + n) % 2 ^ 32 ≡ current
+
+-- Such a number, by a formula (that it is one, and no other is: proofs/Orbits.antt).
+abbrev pub orbitDifference : ℕ → ℕ → ℕ
+orbitDifference previous current = (current + (2 ^ 32 - previous % 2 ^ 32)) % 2 ^ 32
+
+-- "A difference of 2^31 or more, or the same orbit with a smaller BC, means time ran back".
+abbrev pub ranBack : ℕ → ℕ → ℕ → Bool
+ranBack difference previous current = leb (2 ^ 31) difference || (eqb difference 0 && ltb current previous)
+
+-- "rule 2 ..: orbit difference times 3,564 plus current less previous". It is asked where time did not run back, so nothing is cut off at 0.
+abbrev pub longPeriod : ℕ → ℕ → ℕ → ℕ
+longPeriod difference previous current = difference * crossings + current - previous
+
+abbrev pub foundBy : Rule → ℕ → ℕ → ℕ → ℕ
+foundBy rule difference previous current =
+    cond (countsOrbits rule) (longPeriod difference previous current) (period previous current)
+
+-- "if a period is set, this TDH is internal and an earlier one was (the last such)"
 abbrev pub asked : Settings → InternalTdh → Word → Bool
 asked s earlier w = s .running && (s .periodic && (eqb (internalTrigger w) 1 && earlier .stored))
 
+-- Of two internal TDHs and their orbit difference: "when either BC is above 3563, 1045 (previous, current); else 45 if the period differs (found, set)."
+-- 02, ticket 9: "time ran back: record 1046 (previous, current BC) in place of 45. 1045 comes before both."
+abbrev pub intervalRow : Rule → ℕ → ℕ → ℕ → ℕ → Row
+intervalRow rule difference previous current set =
+    let found = foundBy rule difference previous current in
+    cond (illegal previous current) (when true 1045 previous current)
+    (cond (countsOrbits rule && ranBack difference previous current) (when true 1046 previous current) (when (differ found set) 45 found set))
+
+-- "Interval: ..": no row where it is not asked.
 abbrev pub interval : Settings → InternalTdh → Word → Row
 interval s earlier w =
-    let previous = earlier .bc in
-    let current = triggerBc w in
-    when (asked s earlier w && (illegal previous current || differ (period previous current) (s .period)))
-    (cond (illegal previous current) 1045 45)
-    (cond (illegal previous current) previous (period previous current))
-    (cond (illegal previous current) current (s .period))
+    cond (asked s earlier w)
+    (intervalRow (s .rule) (orbitDifference (earlier .orbit) (triggerOrbit w)) (earlier .bc) (triggerBc w) (s .period))
+    none
 
 -- "if page is 0 and (internal is 1 or bit 4 of packet trigger type is set)"
 abbrev pub matchesPacket : Packet → Word → Bool

@@ -1,8 +1,10 @@
 // The records of a TDH, of each of its three kinds. 01, "Records": TDH, interval; the Rust's status_word/tdh.rs.
 ghost use mathlib.Core.Path.{_≡_};
-ghost use Prim.Native.Nat.{_≤_, _<_};
+ghost use Prim.Native.Nat.{_+_, _*_, _≤_, _<_};
 ghost use Rattle.records.specs.Records.{padded};
-ghost use Rattle.tdh_validator.specs.Tdh.{detail, crossings, period, illegal, interval, matchesPacket, tdhRows, afterPacketDoneRows, continuationRows};
+ghost use mathlib.Core.Bool.{true};
+ghost use Rattle.validators.specs.Rule.{countsOrbits};
+ghost use Rattle.tdh_validator.specs.Tdh.{detail, crossings, period, orbitDifference, ranBack, longPeriod, foundBy, intervalRow, interval, matchesPacket, tdhRows, afterPacketDoneRows, continuationRows};
 use records::MOST;
 use records::Row;
 use records::none;
@@ -10,6 +12,7 @@ use records::pick;
 use records::when;
 use validators::InternalTdh;
 use validators::Packet;
+use validators::Rule;
 use validators::Settings;
 use validators::StoredTdh;
 use words::Word;
@@ -17,6 +20,9 @@ use words::tdh::Tdh;
 
 // Crossings of an orbit.
 const CROSSINGS: u32 = 3564;
+
+// An orbit difference from here on means that time ran back: 2^31.
+const HALF_TURN: u32 = 0x8000_0000;
 
 // 40's detail: 1 for the id alone; else 2 for reserved bits, plus 4 for a type and an internal trigger that are both 0.
 pub fn sanity_check(word: Word) -> u64
@@ -42,21 +48,68 @@ fn trigger_period(previous: u16, current: u16) -> u16
     ((current as u32 + 19 * CROSSINGS - previous as u32) % CROSSINGS) as u16
 }
 
-// The period between this TDH and the last internal one before it: 1045 where a crossing is past the last legal one, else 45 where it is not the set one.
+// How many orbits on, over the turn from 4,294,967,295 to 0.
+fn orbit_difference(previous: u32, current: u32) -> u32
+    ensures { λ r. ⌜ r ≡ orbitDifference previous current ⌝ }
+{
+    std::num::wrapping_sub_u32(current, previous)
+}
+
+fn ran_back(difference: u32, previous: u16, current: u16) -> bool
+    ensures { λ r. ⌜ r ≡ ranBack difference previous current ⌝ }
+{
+    (difference >= HALF_TURN) | ((difference == 0) & (current < previous))
+}
+
+// Rule 2, where time did not run back.
+fn long_period(difference: u32, previous: u16, current: u16) -> u64
+    requires { ⌜ previous ≤ difference * crossings + current ⌝ }
+    ensures { λ r. ⌜ r ≡ longPeriod difference previous current ⌝ }
+{
+    difference as u64 * CROSSINGS as u64 + current as u64 - previous as u64
+}
+
+// The period that a rule finds.
+fn found_by(rule: Rule, difference: u32, previous: u16, current: u16) -> u64
+    requires { ⌜ (countsOrbits rule ≡ true → previous ≤ difference * crossings + current) ⌝ }
+    ensures { λ r. ⌜ r ≡ foundBy rule difference previous current ⌝ }
+{
+    if rule.counts_orbits() {
+        return long_period(difference, previous, current);
+    }
+    trigger_period(previous, current) as u64
+}
+
+// The record of two internal TDHs: 1045 where a crossing is past the last legal one; by rule 2, 1046 where time ran back; else 45 where the found period is
+// not the set one.
+fn check_period(rule: Rule, difference: u32, previous: u16, current: u16, set: u32) -> Row
+    ensures { λ r. ⌜ r ≡ intervalRow rule difference previous current set ⌝ }
+{
+    let past = (previous > Tdh::MAX_BC) | (current > Tdh::MAX_BC);
+    let back = rule.counts_orbits() & ran_back(difference, previous, current);
+    if past {
+        return when(true, 1045, previous as u64, current as u64);
+    }
+    if back {
+        return when(true, 1046, previous as u64, current as u64);
+    }
+    let found = found_by(rule, difference, previous, current);
+    when(found != set as u64, 45, found, set as u64)
+}
+
+// The period between this TDH and the last internal one before it, where one is set. Of any other TDH nothing is worked out.
 pub fn check_trigger_interval(settings: Settings, earlier: InternalTdh, word: Word) -> Row
     ensures { λ r. ⌜ r ≡ interval settings earlier word ⌝ }
 {
     let tdh = Tdh { word: word };
-    let bc = tdh.trigger_bc();
     let internal = tdh.internal_trigger();
-    let past = (earlier.bc > Tdh::MAX_BC) | (bc > Tdh::MAX_BC);
-    let found = trigger_period(earlier.bc, bc);
-    let asked = settings.running & (settings.periodic & ((internal == 1) & earlier.stored));
-    let code = pick(past, 1045, 45);
-    let first = pick(past, earlier.bc as u64, found as u64);
-    let second = pick(past, bc as u64, settings.period as u64);
-    let differs = past | (found != settings.period);
-    when(asked & differs, code, first, second)
+    if settings.running & (settings.periodic & ((internal == 1) & earlier.stored)) {
+        let rule = settings.rule;
+        let difference = orbit_difference(earlier.orbit, tdh.trigger_orbit());
+        let bc = tdh.trigger_bc();
+        return check_period(rule, difference, earlier.bc, bc, settings.period);
+    }
+    none()
 }
 
 // Kind TDH: straight after an IHW.

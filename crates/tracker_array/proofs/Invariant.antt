@@ -23,7 +23,7 @@ use Rattle.words.proofs.Tests.{tests}
 start-is : (s : State) → (inStart s ≡ true) ↔ (s ≡ S.Ihw)
 start-is s = (starts s, ap inStart)
 
-settings-is : (s : Settings) → (settingsGood s ≡ true) ↔ ((s .period < 2 ^ 16) × GoodSettings s)
+settings-is : (s : Settings) → (settingsGood s ≡ true) ↔ ((s .period < 2 ^ 32) × GoodSettings s)
 settings-is s = simp tests (λ (low, zero). (low, record { absent = zero }), λ (low, g). (low, g .absent))
 
 ihw-is : (i : StoredIhw) → (ihwGood i ≡ true) ↔ GoodIhw i
@@ -36,8 +36,12 @@ tdh-is h =
       λ (orbit, g). (g .trigger, (g .bc, (orbit, λ o. let e = g .absent o in (cc, (cc, cc))))),
     )
 
-internal-is : (i : InternalTdh) → (internalGood i ≡ true) ↔ GoodInternal i
-internal-is i = simp tests (λ (low, zero). record { bc = low; absent = λ o j. record { stored = o j; bc = zero o j } }, λ g. (g .bc, λ o. cc (g .absent o)))
+internal-is : (i : InternalTdh) → (internalGood i ≡ true) ↔ ((i .orbit < 2 ^ 32) × GoodInternal i)
+internal-is i =
+    simp tests (
+      λ (bc, (orbit, zero)). (orbit, record { bc = bc; absent = λ o j. record { stored = o j; bc = zero o .0 j; orbit = zero o .1 j } }),
+      λ (orbit, g). (g .bc, (orbit, λ o. let e = g .absent o in (cc, cc))),
+    )
 
 cdw-is : (c : StoredCdw) → (cdwGood c ≡ true) ↔ GoodCdw c
 cdw-is c = simp tests (λ (low, zero). record { user = low; absent = λ o j. record { stored = o j; user = zero o j } }, λ g. (g .user, λ o. cc (g .absent o)))
@@ -68,14 +72,14 @@ pub tests-good : (t : Tracker) → isGood t ≡ true → Good t × Sized t
 tests-good t e =
     let (settings, (packet, (count, (ihw, (tdh, (internal, (cdw, (frame, (present, fresh))))))))) = simp parts at e in
     let period = kept (t .settings .periodic) (t .settings .period) (settings .1 .absent) in
-    let same : t .settings ≡ settingsOf (t .settings) = λ j. record { running = t .settings .running; frames = t .settings .frames; periodic = t .settings .periodic; period = period j } in (
+    let same : t .settings ≡ settingsOf (t .settings) = λ j. record { running = t .settings .running; frames = t .settings .frames; periodic = t .settings .periodic; period = period j; rule = t .settings .rule } in (
       record {
         settings = settings .1;
         packet = simp tests packet;
         count = count;
         ihw = ihw;
         tdh = tdh .1;
-        internal = internal;
+        internal = internal .1;
         cdw = cdw;
         frame = frame;
         ihw-present = present .0;
@@ -93,16 +97,16 @@ tests-good t e =
               seen = seen j;
               ihw = ihw .absent no-ihw j;
               tdh = tdh .1 .absent no-tdh j;
-              internal = internal .absent no-internal j;
+              internal = internal .1 .absent no-internal j;
               cdw = cdw .absent no-cdw j;
               frame = frame .absent no-frame j;
             };
       },
-      record { period = settings .0; orbit = tdh .0 },
+      record { period = settings .0; orbit = tdh .0; internal-orbit = internal .0 },
     )
 
 pub good-tests : (t : Tracker) → Good t → Sized t → isGood t ≡ true
 good-tests t g s =
     let range = simp tests at (g .packet) in
     let fresh : t .accepted ≡ false → bare t ≡ true = λ o. ap bare (g .fresh o) in
-    simp parts ((s .period, g .settings), (range, (g .count, (g .ihw, ((s .orbit, g .tdh), (g .internal, (g .cdw, (g .frame, ((g .ihw-present, g .tdh-present), simp parts at fresh)))))))))
+    simp parts ((s .period, g .settings), (range, (g .count, (g .ihw, ((s .orbit, g .tdh), ((s .internal-orbit, g .internal), (g .cdw, (g .frame, ((g .ihw-present, g .tdh-present), simp parts at fresh)))))))))

@@ -37,7 +37,13 @@ one-test n m f low = rw (scaled m f low) (at (isOn f))
         tests-agree _ _ (λ e. let l = leb-true n 0 e in simp (lt-ltb n (m + 1) (omega arith), eq-eqb n 0 (omega arith)))
         (λ e. let z = eqb-true n 0 (both (ltb n (m + 1)) (eqb n 0) e .1) in le-leb n 0 (omega arith))
 
--- Three numbers beside one flag.
+-- Two and three numbers beside one flag.
+pub two : (flag a b x y : Bool) → ((a && (flag || x)) && (b && (flag || y))) ≡ (a && (b && (flag || (x && y))))
+two true a b x y = simp and-true
+two false false b x y = refl
+two false true false x y = simp and-false
+two false true true x y = refl
+
 pub three : (flag a b c x y z : Bool)
     → ((a && (flag || x)) && ((b && (flag || y)) && (c && (flag || z)))) ≡ (a && (b && (c && (flag || (x && (y && z))))))
 three true a b c x y z = simp and-true

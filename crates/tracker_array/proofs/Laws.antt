@@ -11,8 +11,10 @@ use lib.ListN.{length, replicate}
 use borrow.Author.Tests.{eqb-true, eqb-false, le-leb, eq-eqb, ne-eqb}
 use Rattle.cdp_running.specs.declared.Tracker.{Tracker}
 use Rattle.cdp_running.specs.Tracker.{Good}
-use Rattle.tracker_array.specs.Array.{flag, stateNumber, encodeOf}
-use Rattle.tracker_array.specs.Read.{place, isOn, isFlag, trackerIn, inForm, Sized, isGood, isTracker, Is, Not, decodeOf}
+use Rattle.validators.specs.declared.Rule.{Rule}
+use Rattle.validators.specs.declared.Rule.the-variants as R
+use Rattle.tracker_array.specs.Array.{flag, ruleNumber, stateNumber, encodeOf}
+use Rattle.tracker_array.specs.Read.{place, isOn, isFlag, isRule, ruleOf, trackerIn, inForm, Sized, isGood, isTracker, Is, Not, decodeOf}
 use Rattle.tracker_array.specs.Good.{InForm, Fits, GoodArray}
 use Rattle.tracker_array.proofs.State.{state-back, state-low, number-back}
 use Rattle.tracker_array.proofs.Stores.{numbersFrom, spelled}
@@ -34,6 +36,21 @@ number-flag n low = at (isOn n) refl
     at true p = sym (eqb-true n 1 p)
     at false p = let not-one = eqb-false n 1 p in omega arith
 
+rule-back : (r : Rule) → ruleOf (ruleNumber r) ≡ r
+rule-back R.One = refl
+rule-back R.Two = refl
+
+rule-low : (r : Rule) → isRule (ruleNumber r) ≡ true
+rule-low R.One = refl
+rule-low R.Two = refl
+
+number-rule : (n : ℕ) → (eqb n 1 ≡ false → n ≡ 2) → ruleNumber (ruleOf n) ≡ n
+number-rule n two = at (eqb n 1) refl
+  where
+    at : (b : Bool) → eqb n 1 ≡ b → ruleNumber (ruleOf n) ≡ n
+    at true p = let one = eqb-true n 1 p in rw one refl
+    at false p = rw (two p) refl
+
 -- A tracker's numbers pass three tests.
 tracker-is : (a : List ℕ) → (isTracker a ≡ true) ↔ ((length a ≡ 32) × ((inForm a ≡ true) × (isGood (trackerIn a) ≡ true)))
 unfolding isTracker
@@ -42,11 +59,11 @@ tracker-is a = (λ e. let (l, rest) = both (eqb (length a) 32) _ e in (eqb-true 
 module _ (t : Tracker) where
   pub reads-back : trackerIn (encodeOf t) ≡ t
   unfolding encodeOf
-  reads-back = simp (flag-back, state-back)
+  reads-back = simp (flag-back, rule-back, state-back)
 
   form-back : inForm (encodeOf t) ≡ true
   unfolding encodeOf
-  form-back = simp (flag-low, le-leb (stateNumber (t .fsm .state)) 6 (state-low (t .fsm .state)))
+  form-back = simp (flag-low, rule-low, le-leb (stateNumber (t .fsm .state)) 6 (state-low (t .fsm .state)))
 
   long-back : length (encodeOf t) ≡ 32
   unfolding encodeOf
@@ -69,8 +86,8 @@ pub written : (a : List ℕ) → isTracker a ≡ true → a ≡ encodeOf (tracke
 unfolding numbersFrom encodeOf
 written a e =
     let (long, (form, good)) = tracker-is a .0 e in
-    let (m, ((f1, (f2, (f3, (f5, (f15, (f16, (f18, (f22, (f24, f26))))))))), (low, (z28, (z29, (z30, z31)))))) = simp tests at form in
-    sym (spelled 32 0 a long) ∙ simp (m, number-flag, number-back, z28, z29, z30, z31)
+    let (m, ((f1, (f2, (f3, (f6, (f16, (f17, (f19, (f23, (f26, f28))))))))), (two, (low, (z30, z31))))) = simp tests at form in
+    sym (spelled 32 0 a long) ∙ simp (m, number-flag, number-rule (place a 5) two, number-back, z30, z31)
 
 -- What they are read as is a tracker that the start or a call can have given.
 pub tracker-good : (a : List ℕ) → isTracker a ≡ true → Good (trackerIn a) × Sized (trackerIn a)
@@ -82,11 +99,11 @@ tracker-fits a e =
     let (long, (form, tested)) = tracker-is a .0 e in
     let (good, sized) = tests-good (trackerIn a) tested in
     let (position, (orbit, (trigger, (bc, (page, (stop, two)))))) = simp tests at (good .packet) in
-    let format = at (eqb (place a 12) 0) refl two in
+    let format = at (eqb (place a 13) 0) refl two in
     omega arith
   where
-    at : (b : Bool) → eqb (place a 12) 0 ≡ b → (b ≡ false → place a 12 ≡ 2) → place a 12 < 2 ^ 8
-    at true none two = omega (arith, eqb-true (place a 12) 0 none)
+    at : (b : Bool) → eqb (place a 13) 0 ≡ b → (b ≡ false → place a 13 ≡ 2) → place a 13 < 2 ^ 8
+    at true none two = omega (arith, eqb-true (place a 13) 0 none)
     at false some two = omega (arith, two refl)
 
 -- The invariant of an array is the test, in both directions; a tracker's own numbers meet it.
@@ -102,8 +119,8 @@ array-good a h = ap isTracker (h .own) ∙ tracker-back (trackerIn a) (h .good) 
 -- Numbers that passed the test of form.
 pub in-form : (a : List ℕ) → length a ≡ 32 → inForm a ≡ true → InForm a
 in-form a long e =
-    let (m, ((f1, (f2, (f3, (f5, (f15, (f16, (f18, (f22, (f24, f26))))))))), (low, (z28, (z29, (z30, z31)))))) = simp tests at e in
-    record { long = long; periodic = f3; ihw = f16; tdh = f18; internal = f22; cdw = f24; live = f26 }
+    let (m, ((f1, (f2, (f3, (f6, (f16, (f17, (f19, (f23, (f26, f28))))))))), (two, (low, (z30, z31))))) = simp tests at e in
+    record { long = long; periodic = f3; ihw = f17; tdh = f19; internal = f23; cdw = f26; live = f28 }
 
 module _ (a : List ℕ) (t : Tracker) (e : decodeOf a ≡ Is t) where
   decoded : (isTracker a ≡ true) × (trackerIn a ≡ t)

@@ -7,6 +7,8 @@ use lib.Dec.{eqb}
 use lib.ListN.{length}
 use Rattle.payload_fsm.specs.declared.State.{State}
 use Rattle.payload_fsm.specs.declared.State.the-variants as S
+use Rattle.validators.specs.declared.Rule.{Rule}
+use Rattle.validators.specs.declared.Rule.the-variants as R
 use Rattle.validators.specs.declared.Settings.{Settings}
 use Rattle.validators.specs.declared.Packet.{Packet}
 use Rattle.validators.specs.declared.StoredTdh.{StoredTdh}
@@ -22,7 +24,7 @@ size = 32
 -- The first number of every tracker, so that zeros are none: the letters KHZ and the version of the boundary, KHZ_API of include/khandzorul.h, so that an
 -- array of another version is none either.
 abbrev pub mark : ℕ
-mark = 0x4B485A02
+mark = 0x4B485A03
 
 abbrev pub flag : Bool → ℕ
 flag false = 0
@@ -37,46 +39,50 @@ stateNumber S.Three = 4
 stateNumber S.CIhw = 5
 stateNumber S.CTdh = 6
 
--- 1 to 4
-abbrev pub settingsNumbers : Settings → List ℕ
-settingsNumbers s = flag (s .running) ∷ flag (s .frames) ∷ flag (s .periodic) ∷ s .period ∷ []
+abbrev pub ruleNumber : Rule → ℕ
+ruleNumber R.One = 1
+ruleNumber R.Two = 2
 
--- 6 to 12
+-- 1 to 5
+abbrev pub settingsNumbers : Settings → List ℕ
+settingsNumbers s = flag (s .running) ∷ flag (s .frames) ∷ flag (s .periodic) ∷ s .period ∷ ruleNumber (s .rule) ∷ []
+
+-- 7 to 13
 abbrev pub packetNumbers : Packet → List ℕ
 packetNumbers p = p .position ∷ p .orbit ∷ p .trigger ∷ p .bc ∷ p .page ∷ p .stop ∷ p .format ∷ []
 
--- 16, 17
+-- 17, 18
 abbrev pub ihwNumbers : StoredIhw → List ℕ
 ihwNumbers i = flag (i .stored) ∷ i .lanes ∷ []
 
--- 18 to 21
+-- 19 to 22
 abbrev pub tdhNumbers : StoredTdh → List ℕ
 tdhNumbers h = flag (h .stored) ∷ h .trigger ∷ h .bc ∷ h .orbit ∷ []
 
--- 22, 23
+-- 23 to 25
 abbrev pub internalNumbers : InternalTdh → List ℕ
-internalNumbers i = flag (i .stored) ∷ i .bc ∷ []
+internalNumbers i = flag (i .stored) ∷ i .bc ∷ i .orbit ∷ []
 
--- 24, 25
+-- 26, 27
 abbrev pub cdwNumbers : StoredCdw → List ℕ
 cdwNumbers c = flag (c .stored) ∷ c .user ∷ []
 
--- 26, 27
+-- 28, 29
 abbrev pub frameNumbers : Frame → List ℕ
 frameNumbers f = flag (f .live) ∷ f .start ∷ []
 
--- The mark at 0, whether a packet was accepted at 5, state, count and "data seen" at 13 to 15.
+-- The mark at 0, whether a packet was accepted at 6, state, count and "data seen" at 14 to 16.
 abbrev pub firstNumbers : Settings → Bool → Packet → State → ℕ → Bool → List ℕ
 firstNumbers settings accepted packet state count seen =
     (mark ∷ [])
     ++ (settingsNumbers settings
     ++ ((flag accepted ∷ []) ++ (packetNumbers packet ++ (stateNumber state ∷ count ∷ flag seen ∷ []))))
 
--- What is stored, from 16 on, and nothing at 28 to 31.
+-- What is stored, from 17 on, and nothing at 30 and 31.
 abbrev pub storedNumbers : StoredIhw → StoredTdh → InternalTdh → StoredCdw → Frame → List ℕ
 storedNumbers ihw tdh internal cdw frame =
     ihwNumbers ihw
-    ++ (tdhNumbers tdh ++ (internalNumbers internal ++ (cdwNumbers cdw ++ (frameNumbers frame ++ (0 ∷ 0 ∷ 0 ∷ 0 ∷ [])))))
+    ++ (tdhNumbers tdh ++ (internalNumbers internal ++ (cdwNumbers cdw ++ (frameNumbers frame ++ (0 ∷ 0 ∷ [])))))
 
 unfoldable pub encodeOf : Tracker → List ℕ
 encodeOf t =

@@ -12,28 +12,29 @@ use Rattle.tracker_array.specs.Read.{place, trackerIn, Sized}
 pub record InForm (a : List ℕ) : Type 0 where
   pub long : length a ≡ size
   pub periodic : place a 3 ≤ 1
-  pub ihw : place a 16 ≤ 1
-  pub tdh : place a 18 ≤ 1
-  pub internal : place a 22 ≤ 1
-  pub cdw : place a 24 ≤ 1
-  pub live : place a 26 ≤ 1
+  pub ihw : place a 17 ≤ 1
+  pub tdh : place a 19 ≤ 1
+  pub internal : place a 23 ≤ 1
+  pub cdw : place a 26 ≤ 1
+  pub live : place a 28 ≤ 1
 
 -- As many numbers as a tracker has, and those that are read in fewer bits fit them.
 pub record Fits (a : List ℕ) : Type 0 where
   pub long : length a ≡ size
-  pub period : place a 4 < 2 ^ 16
-  pub orbit : place a 7 < 2 ^ 32
-  pub trigger : place a 8 < 2 ^ 32
-  pub bc : place a 9 < 2 ^ 16
-  pub page : place a 10 < 2 ^ 16
-  pub stop : place a 11 < 2 ^ 8
-  pub format : place a 12 < 2 ^ 8
-  pub count : place a 14 < 2 ^ 16
-  pub lanes : place a 17 < 2 ^ 32
-  pub tdh-trigger : place a 19 < 2 ^ 16
-  pub tdh-bc : place a 20 < 2 ^ 16
-  pub tdh-orbit : place a 21 < 2 ^ 32
-  pub internal-bc : place a 23 < 2 ^ 16
+  pub period : place a 4 < 2 ^ 32
+  pub orbit : place a 8 < 2 ^ 32
+  pub trigger : place a 9 < 2 ^ 32
+  pub bc : place a 10 < 2 ^ 16
+  pub page : place a 11 < 2 ^ 16
+  pub stop : place a 12 < 2 ^ 8
+  pub format : place a 13 < 2 ^ 8
+  pub count : place a 15 < 2 ^ 16
+  pub lanes : place a 18 < 2 ^ 32
+  pub tdh-trigger : place a 20 < 2 ^ 16
+  pub tdh-bc : place a 21 < 2 ^ 16
+  pub tdh-orbit : place a 22 < 2 ^ 32
+  pub internal-bc : place a 24 < 2 ^ 16
+  pub internal-orbit : place a 25 < 2 ^ 32
 
 -- The numbers are those of the tracker that they are read as, and that tracker meets its own invariant.
 pub record GoodArray (a : List ℕ) : Type 0 where

@@ -7,6 +7,8 @@ use lib.Dec.{leb, ltb, eqb}
 use lib.ListN.{length, getD}
 use Rattle.payload_fsm.specs.declared.State.{State}
 use Rattle.payload_fsm.specs.declared.State.the-variants as S
+use Rattle.validators.specs.declared.Rule.{Rule}
+use Rattle.validators.specs.declared.Rule.the-variants as R
 use Rattle.validators.specs.declared.Settings.{Settings}
 use Rattle.validators.specs.declared.Packet.{Packet}
 use Rattle.validators.specs.declared.StoredTdh.{StoredTdh}
@@ -33,46 +35,60 @@ stateOf n =
     (cond (eqb n 1) S.Tdh
     (cond (eqb n 2) S.Data (cond (eqb n 3) S.CData (cond (eqb n 4) S.Three (cond (eqb n 5) S.CIhw S.CTdh)))))
 
+-- 02, ticket 9: rule 1 or rule 2.
+abbrev pub isRule : ℕ → Bool
+isRule n = eqb n 1 || eqb n 2
+
+abbrev pub ruleOf : ℕ → Rule
+ruleOf n = cond (eqb n 2) R.Two R.One
+
 -- What the numbers say, each part from its own places.
 abbrev pub settingsIn : List ℕ → Settings
-settingsIn a = record { running = isOn (place a 1); frames = isOn (place a 2); periodic = isOn (place a 3); period = place a 4 }
+settingsIn a =
+    record {
+      running = isOn (place a 1);
+      frames = isOn (place a 2);
+      periodic = isOn (place a 3);
+      period = place a 4;
+      rule = ruleOf (place a 5);
+    }
 
 abbrev pub packetIn : List ℕ → Packet
 packetIn a =
     record {
-      position = place a 6;
-      orbit = place a 7;
-      trigger = place a 8;
-      bc = place a 9;
-      page = place a 10;
-      stop = place a 11;
-      format = place a 12;
+      position = place a 7;
+      orbit = place a 8;
+      trigger = place a 9;
+      bc = place a 10;
+      page = place a 11;
+      stop = place a 12;
+      format = place a 13;
     }
 
 abbrev pub ihwIn : List ℕ → StoredIhw
-ihwIn a = record { stored = isOn (place a 16); lanes = place a 17 }
+ihwIn a = record { stored = isOn (place a 17); lanes = place a 18 }
 
 abbrev pub tdhIn : List ℕ → StoredTdh
-tdhIn a = record { stored = isOn (place a 18); trigger = place a 19; bc = place a 20; orbit = place a 21 }
+tdhIn a = record { stored = isOn (place a 19); trigger = place a 20; bc = place a 21; orbit = place a 22 }
 
 abbrev pub internalIn : List ℕ → InternalTdh
-internalIn a = record { stored = isOn (place a 22); bc = place a 23 }
+internalIn a = record { stored = isOn (place a 23); bc = place a 24; orbit = place a 25 }
 
 abbrev pub cdwIn : List ℕ → StoredCdw
-cdwIn a = record { stored = isOn (place a 24); user = place a 25 }
+cdwIn a = record { stored = isOn (place a 26); user = place a 27 }
 
 abbrev pub frameIn : List ℕ → Frame
-frameIn a = record { live = isOn (place a 26); start = place a 27 }
+frameIn a = record { live = isOn (place a 28); start = place a 29 }
 
 abbrev pub trackerIn : List ℕ → Tracker
 trackerIn a =
     record {
       settings = settingsIn a;
-      accepted = isOn (place a 5);
+      accepted = isOn (place a 6);
       packet = packetIn a;
-      fsm = record { state = stateOf (place a 13) };
-      count = place a 14;
-      seen = isOn (place a 15);
+      fsm = record { state = stateOf (place a 14) };
+      count = place a 15;
+      seen = isOn (place a 16);
       ihw = ihwIn a;
       tdh = tdhIn a;
       internal = internalIn a;
@@ -80,31 +96,32 @@ trackerIn a =
       frame = frameIn a;
     }
 
--- The form: the mark, flags that are 0 or 1, one of the seven states, and 0 where nothing stands.
+-- The form: the mark, flags that are 0 or 1, one of the two rules, one of the seven states, and 0 where nothing stands.
 abbrev pub flagsFit : List ℕ → Bool
 flagsFit a =
     isFlag (place a 1)
     && (isFlag (place a 2)
     && (isFlag (place a 3)
-    && (isFlag (place a 5)
-    && (isFlag (place a 15)
+    && (isFlag (place a 6)
     && (isFlag (place a 16)
-    && (isFlag (place a 18) && (isFlag (place a 22) && (isFlag (place a 24) && isFlag (place a 26)))))))))
+    && (isFlag (place a 17)
+    && (isFlag (place a 19) && (isFlag (place a 23) && (isFlag (place a 26) && isFlag (place a 28)))))))))
 
 abbrev pub unused : List ℕ → Bool
-unused a = eqb (place a 28) 0 && (eqb (place a 29) 0 && (eqb (place a 30) 0 && eqb (place a 31) 0))
+unused a = eqb (place a 30) 0 && eqb (place a 31) 0
 
 abbrev pub inForm : List ℕ → Bool
-inForm a = eqb (place a 0) mark && (flagsFit a && (leb (place a 13) 6 && unused a))
+inForm a = eqb (place a 0) mark && (flagsFit a && (isRule (place a 5) && (leb (place a 14) 6 && unused a)))
 
 -- What fits the widths of its types and the invariant does not speak of.
 pub record Sized (t : Tracker) : Type 0 where
-  pub period : t .settings .period < 2 ^ 16
+  pub period : t .settings .period < 2 ^ 32
   pub orbit : t .tdh .orbit < 2 ^ 32
+  pub internal-orbit : t .internal .orbit < 2 ^ 32
 
 -- These, and the invariant of cdp_running, `Good`, as tests: proofs/Invariant.antt has that they are the same.
 abbrev pub settingsGood : Settings → Bool
-settingsGood s = ltb (s .period) (2 ^ 16) && (s .periodic || eqb (s .period) 0)
+settingsGood s = ltb (s .period) (2 ^ 32) && (s .periodic || eqb (s .period) 0)
 
 abbrev pub ihwGood : StoredIhw → Bool
 ihwGood i = ltb (i .lanes) (2 ^ 28) && (i .stored || eqb (i .lanes) 0)
@@ -116,7 +133,8 @@ tdhGood h =
     && (ltb (h .orbit) (2 ^ 32) && (h .stored || (eqb (h .trigger) 0 && (eqb (h .bc) 0 && eqb (h .orbit) 0)))))
 
 abbrev pub internalGood : InternalTdh → Bool
-internalGood i = ltb (i .bc) (2 ^ 12) && (i .stored || eqb (i .bc) 0)
+internalGood i =
+    ltb (i .bc) (2 ^ 12) && (ltb (i .orbit) (2 ^ 32) && (i .stored || (eqb (i .bc) 0 && eqb (i .orbit) 0)))
 
 abbrev pub cdwGood : StoredCdw → Bool
 cdwGood c = ltb (c .user) (2 ^ 48) && (c .stored || eqb (c .user) 0)

@@ -5,6 +5,7 @@ ghost use Rattle.tracker_array.specs.Read.{isTracker};
 
 pub mod place;
 pub mod read;
+pub mod rules;
 pub mod states;
 mod test;
 mod write;
@@ -15,7 +16,7 @@ use cdp_running::Tracker;
 pub const SIZE: usize = 32;
 
 // The first number of every tracker; its last byte is the version of the boundary.
-pub const MARK: u64 = 0x4B48_5A02;
+pub const MARK: u64 = 0x4B48_5A03;
 
 // Whether numbers are a tracker.
 pub fn is_tracker(a: &[u64]) -> bool

@@ -3,6 +3,7 @@ ghost use mathlib.Core.Path.{_≡_};
 ghost use Rattle.tracker_array.specs.Read.{settingsIn, packetIn, ihwIn, tdhIn, internalIn, cdwIn, frameIn};
 ghost use Rattle.tracker_array.specs.Good.{GoodArray};
 use crate::place;
+use crate::rules;
 use stored::Frame;
 use stored::StoredIhw;
 use validators::InternalTdh;
@@ -19,7 +20,8 @@ pub fn settings(a: &[u64]) -> Settings
         running: a[place::RUNNING] == 1,
         frames: a[place::FRAMES] == 1,
         periodic: a[place::PERIODIC] == 1,
-        period: a[place::PERIOD] as u16,
+        period: a[place::PERIOD] as u32,
+        rule: rules::rule_of(a[place::RULE]),
     }
 }
 
@@ -67,6 +69,7 @@ pub fn internal(a: &[u64]) -> InternalTdh
     InternalTdh {
         stored: a[place::INTERNAL] == 1,
         bc: a[place::INTERNAL_BC] as u16,
+        orbit: a[place::INTERNAL_ORBIT] as u32,
     }
 }
 

@@ -10,6 +10,7 @@ ghost use Rattle.tracker_array.specs.Read.{place, isOn, stateOf, setting
 ghost use Rattle.tracker_array.specs.Good.{InForm};
 use crate::MARK;
 use crate::place;
+use crate::rules;
 
 // The largest position of a word: 2^62 + 64 + 16 * 4095.
 const MOST_POSITION: u64 = 0x4000_0000_0001_0030;
@@ -33,15 +34,16 @@ fn unused(a: &[u64]) -> bool
     requires { ⌜ length (now a) ≡ size ⌝ }
     ensures { λ r. ⌜ r ≡ unused (now (a .entry)) ⌝ }
 {
-    (a[28] == 0) & ((a[29] == 0) & ((a[30] == 0) & (a[31] == 0)))
+    (a[30] == 0) & (a[31] == 0)
 }
 
-// The mark, flags, a state, and nothing where nothing stands.
+// The mark, flags, a rule, a state, and nothing where nothing stands.
 pub(crate) fn in_form(a: &[u64]) -> bool
     requires { ⌜ length (now a) ≡ size ⌝ }
     ensures { λ r. ⌜ r ≡ inForm (now (a .entry)) ⌝ }
 {
-    (a[0] == MARK) & (flags_fit(a) & ((a[place::STATE] <= 6) & unused(a)))
+    (a[0] == MARK)
+        & (flags_fit(a) & (rules::is_rule(a[place::RULE]) & ((a[place::STATE] <= 6) & unused(a))))
 }
 
 // Whether a number fits where its flag is on, and is 0 where it is off, by one comparison.
@@ -56,7 +58,7 @@ fn settings(a: &[u64]) -> bool
     requires { ⌜ InForm (now a) ⌝ }
     ensures { λ r. ⌜ r ≡ settingsGood (settingsIn (now (a .entry))) ⌝ }
 {
-    fits(a[place::PERIODIC], 0xFFFF, a[place::PERIOD])
+    fits(a[place::PERIODIC], 0xFFFF_FFFF, a[place::PERIOD])
 }
 
 fn packet(a: &[u64]) -> bool
@@ -94,7 +96,8 @@ fn internal(a: &[u64]) -> bool
     requires { ⌜ InForm (now a) ⌝ }
     ensures { λ r. ⌜ r ≡ internalGood (internalIn (now (a .entry))) ⌝ }
 {
-    fits(a[place::INTERNAL], 0xFFF, a[place::INTERNAL_BC])
+    let stored = a[place::INTERNAL];
+    fits(stored, 0xFFF, a[place::INTERNAL_BC]) & fits(stored, 0xFFFF_FFFF, a[place::INTERNAL_ORBIT])
 }
 
 fn cdw(a: &[u64]) -> bool
@@ -115,7 +118,7 @@ fn frame(a: &[u64]) -> bool
 // What came in: settings, packet and count.
 fn came_good(a: &[u64]) -> bool
     requires { ⌜ InForm (now a) ⌝ }
-    ensures { λ r. ⌜ r ≡ (settingsGood (settingsIn (now (a .entry))) && (inRange (packetIn (now (a .entry))) && leb (place (now (a .entry)) 14) maxWords)) ⌝ }
+    ensures { λ r. ⌜ r ≡ (settingsGood (settingsIn (now (a .entry))) && (inRange (packetIn (now (a .entry))) && leb (place (now (a .entry)) 15) maxWords)) ⌝ }
 {
     if !settings(a) {
         return false;
@@ -203,7 +206,7 @@ fn blank(a: &[u64]) -> bool
 // With a packet, or as the start gave it.
 fn begun(a: &[u64]) -> bool
     requires { ⌜ InForm (now a) ⌝ }
-    ensures { λ r. ⌜ r ≡ (isOn (place (now (a .entry)) 5) || (packetBlank (packetIn (now (a .entry))) && blank (trackerIn (now (a .entry))))) ⌝ }
+    ensures { λ r. ⌜ r ≡ (isOn (place (now (a .entry)) 6) || (packetBlank (packetIn (now (a .entry))) && blank (trackerIn (now (a .entry))))) ⌝ }
 {
     if a[place::ACCEPTED] == 1 {
         return true;

@@ -4,9 +4,10 @@ ghost use Prim.Native.Nat.{_+_, _≤_};
 ghost use mathlib.Core.List.{[], _∷_};
 ghost use lib.ListN.{length};
 ghost use lib.Seq.{sets};
-ghost use Rattle.tracker_array.specs.Array.{size, mark, flag, stateNumber, settingsNumbers, packetNumbers, tdhNumbers, firstNumbers, storedNumbers};
+ghost use Rattle.tracker_array.specs.Array.{size, mark, flag, stateNumber, settingsNumbers, packetNumbers, tdhNumbers, internalNumbers, firstNumbers, storedNumbers};
 use crate::MARK;
 use crate::place;
+use crate::rules;
 use crate::states;
 use payload_fsm::State;
 use stored::Frame;
@@ -31,11 +32,13 @@ fn settings(s: Settings, a: &mut [u64])
     a[place::FRAMES] = flag(s.frames);
     a[place::PERIODIC] = flag(s.periodic);
     a[place::PERIOD] = s.period as u64;
+    let rule = s.rule;
+    a[place::RULE] = rules::rule_number(rule);
 }
 
 fn packet(p: Packet, a: &mut [u64])
     requires { ⌜ length (now a) ≡ size ⌝ }
-    ensures { λ _. ⌜ now (a .exit) ≡ sets (now (a .entry)) 6 (packetNumbers p) ⌝ }
+    ensures { λ _. ⌜ now (a .exit) ≡ sets (now (a .entry)) 7 (packetNumbers p) ⌝ }
 {
     a[place::POSITION] = p.position;
     a[place::ORBIT] = p.orbit as u64;
@@ -58,12 +61,21 @@ fn held(there: bool, n: u64, at: usize, a: &mut [u64])
 
 fn tdh(h: StoredTdh, a: &mut [u64])
     requires { ⌜ length (now a) ≡ size ⌝ }
-    ensures { λ _. ⌜ now (a .exit) ≡ sets (now (a .entry)) 18 (tdhNumbers h) ⌝ }
+    ensures { λ _. ⌜ now (a .exit) ≡ sets (now (a .entry)) 19 (tdhNumbers h) ⌝ }
 {
     a[place::TDH] = flag(h.stored);
     a[place::TDH_TRIGGER] = h.trigger as u64;
     a[place::TDH_BC] = h.bc as u64;
     a[place::TDH_ORBIT] = h.orbit as u64;
+}
+
+fn internal(h: InternalTdh, a: &mut [u64])
+    requires { ⌜ length (now a) ≡ size ⌝ }
+    ensures { λ _. ⌜ now (a .exit) ≡ sets (now (a .entry)) 23 (internalNumbers h) ⌝ }
+{
+    a[place::INTERNAL] = flag(h.stored);
+    a[place::INTERNAL_BC] = h.bc as u64;
+    a[place::INTERNAL_ORBIT] = h.orbit as u64;
 }
 
 fn mark(a: &mut [u64])
@@ -75,14 +87,14 @@ fn mark(a: &mut [u64])
 
 fn accepted(b: bool, a: &mut [u64])
     requires { ⌜ length (now a) ≡ size ⌝ }
-    ensures { λ _. ⌜ now (a .exit) ≡ sets (now (a .entry)) 5 (flag b ∷ []) ⌝ }
+    ensures { λ _. ⌜ now (a .exit) ≡ sets (now (a .entry)) 6 (flag b ∷ []) ⌝ }
 {
     a[place::ACCEPTED] = flag(b);
 }
 
 fn reached(state: State, count: u16, seen: bool, a: &mut [u64])
     requires { ⌜ length (now a) ≡ size ⌝ }
-    ensures { λ _. ⌜ now (a .exit) ≡ sets (now (a .entry)) 13 (stateNumber state ∷ count ∷ flag seen ∷ []) ⌝ }
+    ensures { λ _. ⌜ now (a .exit) ≡ sets (now (a .entry)) 14 (stateNumber state ∷ count ∷ flag seen ∷ []) ⌝ }
 {
     a[place::STATE] = states::state_number(state);
     a[place::COUNT] = count as u64;
@@ -91,10 +103,8 @@ fn reached(state: State, count: u16, seen: bool, a: &mut [u64])
 
 fn rest(a: &mut [u64])
     requires { ⌜ length (now a) ≡ size ⌝ }
-    ensures { λ _. ⌜ now (a .exit) ≡ sets (now (a .entry)) 28 (0 ∷ 0 ∷ 0 ∷ 0 ∷ []) ⌝ }
+    ensures { λ _. ⌜ now (a .exit) ≡ sets (now (a .entry)) 30 (0 ∷ 0 ∷ []) ⌝ }
 {
-    a[28] = 0;
-    a[29] = 0;
     a[30] = 0;
     a[31] = 0;
 }
@@ -121,17 +131,17 @@ pub(crate) fn first(
 pub(crate) fn stored(
     ihw: StoredIhw,
     h: StoredTdh,
-    internal: InternalTdh,
+    i: InternalTdh,
     cdw: StoredCdw,
     frame: Frame,
     a: &mut [u64],
 )
     requires { ⌜ length (now a) ≡ size ⌝ }
-    ensures { λ _. ⌜ now (a .exit) ≡ sets (now (a .entry)) 16 (storedNumbers ihw h internal cdw frame) ⌝ }
+    ensures { λ _. ⌜ now (a .exit) ≡ sets (now (a .entry)) 17 (storedNumbers ihw h i cdw frame) ⌝ }
 {
     held(ihw.stored, ihw.lanes as u64, place::IHW, a);
     tdh(h, a);
-    held(internal.stored, internal.bc as u64, place::INTERNAL, a);
+    internal(i, a);
     held(cdw.stored, cdw.user, place::CDW, a);
     held(frame.live, frame.start, place::LIVE, a);
     rest(a);

@@ -1,16 +1,37 @@
 // The records that a word gives, by what it was taken as: a file for each word, as in the Rust's validators. The TDH has a crate of its own.
 // Document 01, "Records, in the order given". What was stored before the word is handed in.
+ghost use mathlib.Core.Path.{_≡_};
+ghost use Rattle.validators.specs.Rule.{countsOrbits};
+
 pub mod data_words;
 pub mod ddw;
 pub mod ihw;
 pub mod tdt;
 
-// Fixed at the start: running checks, frames, and a period that is there or not.
+// How the period between two internal triggers is found. 02, ticket 9: rule 1 sees the place in the orbit alone, rule 2 counts orbits too.
+pub enum Rule {
+    One,
+    Two,
+}
+
+impl Rule {
+    pub fn counts_orbits(self) -> bool
+        ensures { λ r. ⌜ r ≡ countsOrbits self ⌝ }
+    {
+        match self {
+            Rule::One => false,
+            Rule::Two => true,
+        }
+    }
+}
+
+// Fixed at the start: running checks, frames, a period that is there or not, and the rule that finds it.
 pub struct Settings {
     pub running: bool,
     pub frames: bool,
     pub periodic: bool,
-    pub period: u16,
+    pub period: u32,
+    pub rule: Rule,
 }
 
 // What a packet's header says.
@@ -36,6 +57,7 @@ pub struct StoredTdh {
 pub struct InternalTdh {
     pub stored: bool,
     pub bc: u16,
+    pub orbit: u32,
 }
 
 // Of the CDW stored last, what is read again.

@@ -7,6 +7,7 @@ use cdp_running::Told;
 use cdp_running::Tracker;
 use stored::FrameTold;
 use validators::Packet;
+use validators::Rule;
 use validators::Settings;
 
 // The most calls of a file.
@@ -92,7 +93,8 @@ fn settings_of(b: &[u8; 22]) -> Settings {
         running: b[0] == 1,
         frames: b[1] == 1,
         periodic: b[2] == 1,
-        period: two(b, 3),
+        period: two(b, 3) as u32,
+        rule: Rule::One,
     }
 }
 
@@ -283,6 +285,7 @@ fn replay(fd: i32) -> Tally {
         frames: false,
         periodic: false,
         period: 0,
+        rule: Rule::One,
     });
     let mut y = Tally {
         sequences: 0,

@@ -16,12 +16,12 @@ returns c =
     let c6 = c .before .before .before .before .before .before in
     let c12 = c6 .before .before .before .before .before .before in
     let c18 = c12 .before .before .before .before .before .before in
-    let l = now (c18 .args .a) in
-    tdh-stored (c18 .args .word) l (c18 .args .here) (c12 .before .before .before .before .trigger-bc .ensures) (ap (λ (n : ℕ). eqb n 1) (c12 .before .before .internal-trigger .ensures))
-    (ap (λ (n : ℕ). isOn (place l 2) && (not (isOn (place l 26)) && eqb n 0)) (c12 .before .before .before .continuation .ensures)) (c6 .before .before .before .before .tdh-fields .ensures) (c6 .put-if .ensures) (c .before .before .put-if2 .ensures)
+    let l = now (c18 .before .args .a) in
+    tdh-stored (c18 .before .args .word) l (c18 .before .args .here) (c12 .before .before .before .before .before .trigger-bc .ensures) (c12 .before .before .before .before .trigger-orbit .ensures) (ap (λ (n : ℕ). eqb n 1) (c12 .before .before .internal-trigger .ensures))
+    (ap (λ (n : ℕ). isOn (place l 2) && (not (isOn (place l 28)) && eqb n 0)) (c12 .before .before .before .continuation .ensures)) (c6 .before .before .before .before .tdh-fields .ensures) (c6 .put-three-if .ensures) (c .before .before .put-if .ensures)
 
 pub tdh-spec : {M : Type 1} → statement M
 tdh-spec =
     tie.close
     (tie.spec (λ c. search needs) (λ c. search needs) (λ c. search needs) (λ c. search needs) (λ c. search needs) (λ c. search needs)
-    (λ c. search needs) (λ c. search needs) (λ c. search needs) (λ c. search needs) returns)
+    (λ c. search needs) (λ c. search needs) (λ c. search needs) (λ c. search needs) (λ c. search needs) (λ c. search needs) returns)

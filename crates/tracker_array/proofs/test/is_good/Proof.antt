@@ -15,9 +15,9 @@ use Rattle.tracker_array.proofs.test.is_good.Tie as tie
 
 -- The parts in the groups that the code asks.
 grouped : (l : List ℕ)
-    → ((settingsGood (settingsIn l) && (inRange (packetIn l) && leb (place l 14) maxWords))
+    → ((settingsGood (settingsIn l) && (inRange (packetIn l) && leb (place l 15) maxWords))
     && ((ihwGood (ihwIn l) && (tdhGood (tdhIn l) && (internalGood (internalIn l) && (cdwGood (cdwIn l) && frameGood (isOn (place l 2)) (frameIn l)))))
-    && (present (trackerIn l .fsm .state) (ihwIn l) (tdhIn l) && (isOn (place l 5) || (packetBlank (packetIn l) && blank (trackerIn l))))))
+    && (present (trackerIn l .fsm .state) (ihwIn l) (tdhIn l) && (isOn (place l 6) || (packetBlank (packetIn l) && blank (trackerIn l))))))
     ≡ isGood (trackerIn l)
 grouped l = simp and-assoc
 

@@ -17,7 +17,7 @@ returns c =
     let c6 = c .before .before .before .before .before .before in
     let l = now (c6 .before .before .args .a) in
     simp (c .before .before .before .before .fits2 .ensures, c .before .before .fits3 .ensures, c .fits4 .ensures)
-    (three (isOn (place l 18)) (ltb (place l 19) 0x1000) (ltb (place l 20) 0x1000) (ltb (place l 21) 0x100000000) (eqb (place l 19) 0) (eqb (place l 20) 0) (eqb (place l 21) 0))
+    (three (isOn (place l 19)) (ltb (place l 20) 0x1000) (ltb (place l 21) 0x1000) (ltb (place l 22) 0x100000000) (eqb (place l 20) 0) (eqb (place l 21) 0) (eqb (place l 22) 0))
 
 pub tdh-spec : {M : Type 1} → statement M
 tdh-spec =

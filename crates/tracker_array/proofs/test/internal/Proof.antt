@@ -1,0 +1,18 @@
+-- `internal` meets its contract: two numbers beside one flag.
+-- Assumes nothing.
+use denote.Ref.{now}
+use lib.Dec.{ltb, eqb}
+use Rattle.tracker_array.specs.Read.{place, isOn}
+use Rattle.tracker_array.proofs.Kept.{two}
+use borrow.Author.Needs.{needs}
+use Rattle.tracker_array.proofs.test.internal.Statement.{statement}
+use Rattle.tracker_array.proofs.test.internal.Tie as tie
+
+returns : tie.Need-returns
+returns c =
+    let l = now (c .before .before .before .before .before .before .args .a) in
+    simp (c .before .before .fits2 .ensures, c .fits3 .ensures)
+    (two (isOn (place l 23)) (ltb (place l 24) 0x1000) (ltb (place l 25) 0x100000000) (eqb (place l 24) 0) (eqb (place l 25) 0))
+
+pub internal-spec : {M : Type 1} → statement M
+internal-spec = tie.close (tie.spec (λ c. search needs) (λ c. search needs) (λ c. search needs) (λ c. search needs) (λ c. search needs) returns)
