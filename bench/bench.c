@@ -306,7 +306,7 @@ int main(int argc, char **argv)
 {
 #ifdef BEFORE
     uint64_t t[64];
-    while (before_len < 64 && before_start(t, before_len, 1, 1, 1, 198) != 0)
+    while (before_len < 64 && before_start(t, before_len, 1, 1, 1, 198, KHZ_RULE_1) != 0)
         before_len++;
 #endif
     if (argc == 6 && strcmp(argv[1], "time") == 0 && atol(argv[3]) > 0)

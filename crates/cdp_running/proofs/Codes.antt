@@ -13,11 +13,10 @@ use Rattle.data_ids.specs.DataIds.{innerLane, outerLane}
 use Rattle.payload_fsm.specs.declared.ItsPayloadWord.{ItsPayloadWord}
 use Rattle.payload_fsm.specs.declared.ItsPayloadWord.the-variants as K
 use Rattle.payload_fsm.proofs.Rows.{choice}
-use Rattle.records.specs.declared.Row.{Row}
 use Rattle.records.specs.Records.{Each}
 use Rattle.records.proofs.Given.{given-each, each-so}
 use Rattle.validators.specs.Rule.{countsOrbits}
-use Rattle.tdh_validator.specs.Tdh.{illegal, orbitDifference, ranBack, asked, interval}
+use Rattle.tdh_validator.specs.Tdh.{illegal, orbitDifference, ranBack, interval}
 use Rattle.cdp_running.specs.declared.Tracker.{Tracker}
 use Rattle.cdp_running.specs.Word.{rowsAs, rowsOf, takenAs, positionNow, recordsOf}
 
@@ -39,42 +38,35 @@ codesAs K.Ddw0 = 992 ∷ 60 ∷ 1110 ∷ 1111 ∷ []
 abbrev pub In : ItsPayloadWord → ℕ → Type 0
 In kind code = among code (codesAs kind) ≡ true
 
--- A row that is given has such a code.
-abbrev pub Coded : ItsPayloadWord → Row → Type 0
-Coded kind row = row .on ≡ true → In kind (row .code)
-
 -- A code that is not among them is not given.
 pub not-in : (kind : ItsPayloadWord) (code : ℕ) → among code (codesAs kind) ≡ false → {c : ℕ} → In kind c → c ≡ code → ⊥
 not-in kind code e {c} p q = true≢false (sym p ∙ ap (λ (n : ℕ). among n (codesAs kind)) q ∙ e)
 
--- The interval, of a kind that has its three codes.
-interval-in : (kind : ItsPayloadWord) → In kind 1045 → In kind 1046 → In kind 45 → (t : Tracker) (w : Word) → Coded kind (interval (t .settings) (t .internal) w)
-interval-in kind illegal-in back-in period-in t w =
-    let rule = t .settings .rule in
+-- The interval has one of three codes, in either kind.
+interval-in : (kind : ItsPayloadWord) → In kind 1045 → In kind 1046 → In kind 45 → (t : Tracker) (w : Word) → In kind (interval (t .settings) (t .internal) w .code)
+interval-in kind past back period t w =
     let previous = t .internal .bc in
     let difference = orbitDifference (t .internal .orbit) (triggerOrbit w) in
-    choice (Coded kind) (asked (t .settings) (t .internal) w)
-    (choice (Coded kind) (illegal previous (triggerBc w)) (λ _. illegal-in)
-    (choice (Coded kind) (countsOrbits rule && ranBack difference previous (triggerBc w)) (λ _. back-in) (λ _. period-in)))
-    (λ off. absurd (true≢false (sym off)))
+    choice (In kind) (illegal previous (triggerBc w)) past
+    (choice (In kind) (countsOrbits (t .settings .rule) && ranBack difference previous (triggerBc w)) back period)
 
 -- A data word and a CDW have the same rows. Those on a lane have 1074 where there is no such lane.
-data-in : (guessed : Bool) (t : Tracker) (w : Word) → Each (Coded K.DataWord) (rowsAs K.DataWord guessed t w)
+data-in : (guessed : Bool) (t : Tracker) (w : Word) → Each (λ row. In K.DataWord (row .code)) (rowsAs K.DataWord guessed t w)
 data-in guessed t w =
     let none : Bool → ℕ → Bool = λ inner lane. isMissing (laneAnswer inner lane (t .ihw .lanes)) in
-    (λ _. refl, (λ _. refl, (λ _. refl, (λ _. choice (In K.DataWord) (none true (innerLane (idOf w))) refl refl, (λ _. choice (In K.DataWord) (none false (outerLane (idOf w))) refl refl, (λ _. refl, tt))))))
+    (refl, (refl, (refl, (choice (In K.DataWord) (none true (innerLane (idOf w))) refl refl, (choice (In K.DataWord) (none false (outerLane (idOf w))) refl refl, (refl, tt))))))
 
-pub rows-in : (kind : ItsPayloadWord) (guessed : Bool) (t : Tracker) (w : Word) → Each (Coded kind) (rowsAs kind guessed t w)
-rows-in K.Ihw guessed t w = (λ _. refl, (λ _. refl, (λ _. refl, (λ _. refl, tt))))
-rows-in K.IhwContinuation guessed t w = (λ _. refl, tt)
+pub rows-in : (kind : ItsPayloadWord) (guessed : Bool) (t : Tracker) (w : Word) → Each (λ row. In kind (row .code)) (rowsAs kind guessed t w)
+rows-in K.Ihw guessed t w = (refl, (refl, (refl, (refl, tt))))
+rows-in K.IhwContinuation guessed t w = (refl, tt)
 rows-in K.Tdh guessed t w =
-    (λ _. refl, (λ _. refl, (λ _. refl, (λ _. refl, (λ _. refl, (interval-in K.Tdh refl refl refl t w, tt))))))
-rows-in K.TdhAfterPacketDone guessed t w = (λ _. refl, (λ _. refl, (interval-in K.TdhAfterPacketDone refl refl refl t w, tt)))
-rows-in K.TdhContinuation guessed t w = (λ _. refl, (λ _. refl, (λ _. refl, (λ _. refl, (λ _. refl, tt)))))
+    (refl, (refl, (refl, (refl, (refl, (interval-in K.Tdh refl refl refl t w, tt))))))
+rows-in K.TdhAfterPacketDone guessed t w = (refl, (refl, (interval-in K.TdhAfterPacketDone refl refl refl t w, tt)))
+rows-in K.TdhContinuation guessed t w = (refl, (refl, (refl, (refl, (refl, tt)))))
 rows-in K.DataWord guessed t w = data-in guessed t w
 rows-in K.Cdw guessed t w = data-in guessed t w
-rows-in K.Tdt guessed t w = (λ _. refl, (λ _. refl, tt))
-rows-in K.Ddw0 guessed t w = (λ _. refl, (λ _. refl, (λ _. refl, (λ _. refl, tt))))
+rows-in K.Tdt guessed t w = (refl, (refl, tt))
+rows-in K.Ddw0 guessed t w = (refl, (refl, (refl, (refl, tt))))
 
 none-is-990 : (kind : ItsPayloadWord) → among 990 (codesAs kind) ≡ false
 none-is-990 K.Ihw = refl
@@ -93,7 +85,8 @@ module _ (t : Tracker) (w : Word) where
   unfolding recordsOf
   codes-by-kind =
       let a = takenAs t w in
-      given-each (λ r. In (a .word) (r .code)) (positionNow t) (rowsOf t a w) (rows-in (a .word) (a .guessed) t w)
+      given-each (λ r. In (a .word) (r .code)) (positionNow t) (rowsOf t a w)
+      (each-so (λ row p _. p) (rowsOf t a w) (rows-in (a .word) (a .guessed) t w))
 
   -- No record has code 990.
   pub none-990 : Each (λ r. r .code ≡ 990 → ⊥) (recordsOf t w)

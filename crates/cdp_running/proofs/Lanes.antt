@@ -44,10 +44,10 @@ module _ (t : Tracker) (w : Word) where
   elsewhere : (kind : ItsPayloadWord) (guessed : Bool) → isData kind ≡ false → Each Told (rowsAs kind guessed t w)
   elsewhere kind guessed e =
       each-so
-      (λ row p on. record {
-        inner-lane = λ q. absurd (not-in kind 1072 (of-data kind .0 ∙ e) (p on) q);
-        outer-lane = λ q. absurd (not-in kind 1071 (of-data kind .1 .0 ∙ e) (p on) q);
-        no-lane = λ q. absurd (not-in kind 1074 (of-data kind .1 .1 ∙ e) (p on) q);
+      (λ row p _. record {
+        inner-lane = λ q. absurd (not-in kind 1072 (of-data kind .0 ∙ e) p q);
+        outer-lane = λ q. absurd (not-in kind 1071 (of-data kind .1 .0 ∙ e) p q);
+        no-lane = λ q. absurd (not-in kind 1074 (of-data kind .1 .1 ∙ e) p q);
       })
       (rowsAs kind guessed t w) (rows-in kind guessed t w)
 

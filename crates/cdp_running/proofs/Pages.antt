@@ -46,7 +46,7 @@ module _ (t : Tracker) (w : Word) where
 
   elsewhere : (kind : ItsPayloadWord) (guessed : Bool) → isInitial kind ≡ false → Each Told (rowsAs kind guessed t w)
   elsewhere kind guessed e =
-      each-so (λ row p on. (λ q. absurd (not-in kind 1121 (of-ihw kind .0 ∙ e) (p on) q), λ q. absurd (not-in kind 1122 (of-ihw kind .1 ∙ e) (p on) q)))
+      each-so (λ row p _. (λ q. absurd (not-in kind 1121 (of-ihw kind .0 ∙ e) p q), λ q. absurd (not-in kind 1122 (of-ihw kind .1 ∙ e) p q)))
       (rowsAs kind guessed t w) (rows-in kind guessed t w)
 
   -- What a row asks of the state holds where its condition does.

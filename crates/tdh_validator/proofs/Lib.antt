@@ -1,3 +1,4 @@
 pub mod Period
 pub mod Orbits
+pub mod Counted
 pub mod Chain

@@ -1,19 +1,13 @@
 -- 02, ticket 9: the orbit difference is one, and no other number is. Where rule 2 gives a period, its remainder by 3564 is rule 1's, and it is the number
--- of crossings between the two triggers. What a record tells of it.
+-- of crossings from the one trigger to the other.
 -- Assumes nothing.
 use Prim.Native.Nat.{ℕ, _+_, _-_, _*_, _%_, _≤_, _<_, _^_}
-use mathlib.Core.Path.{_≡_, refl, sym, _∙_}
-use mathlib.Core.Bool.{Bool, true, false, cond, _&&_, _||_, true≢false}
+use mathlib.Core.Path.{_≡_, refl}
+use mathlib.Core.Bool.{Bool, true, false, _&&_, _||_, true≢false}
 use native.Mathlib.Omega.{arith}
 use borrow.Author.Tests.{eqb-true, ltb-false, eqb-false, lt-leb, le-ltb}
 use lib.Dec.{leb, ltb, eqb}
-use Rattle.words.specs.Tdh.{maxBc}
-use Rattle.records.specs.declared.Row.{Row}
-use Rattle.records.specs.Records.{when}
-use Rattle.validators.specs.declared.Rule.{Rule}
-use Rattle.validators.specs.Rule.{countsOrbits}
-use Rattle.validators.specs.Detail.{differ}
-use Rattle.tdh_validator.specs.Tdh.{Legal, crossings, period, illegal, IsOrbitDifference, orbitDifference, ranBack, longPeriod, foundBy, intervalRow}
+use Rattle.tdh_validator.specs.Tdh.{Legal, crossings, period, IsOrbitDifference, orbitDifference, ranBack, longPeriod}
 
 module _ (previous current : ℕ) (fits : previous < 2 ^ 32) (fits′ : current < 2 ^ 32) where
   pub difference-is : IsOrbitDifference previous current (orbitDifference previous current)
@@ -31,25 +25,6 @@ onward d p c legal e = at (leb (2 ^ 31) d) (eqb d 0) (ltb c p) refl refl e
     at far false less q r e = let h = eqb-false d 0 q in omega (arith, h)
     at true true true q r e = absurd (true≢false e)
     at false true true q r e = absurd (true≢false e)
-
-legal-first : (previous current : ℕ) → illegal previous current ≡ false → Legal previous
-legal-first p c e = at (ltb maxBc p) refl e
-  where
-    at : (b : Bool) → ltb maxBc p ≡ b → (b || ltb maxBc c) ≡ false → Legal p
-    at true q e = absurd (true≢false e)
-    at false q e = let h = ltb-false maxBc p q in omega (arith, h)
-
--- What the code has asked before a period is found: no crossing is past the last legal one, and by rule 2 time did not run back.
-module _ (rule : Rule) (difference previous current : ℕ) {orbits back : Bool} (counts : orbits ≡ countsOrbits rule) (ran : back ≡ ranBack difference previous current) (low : illegal previous current ≡ false) (none : (orbits && back) ≡ false) where
-  pub found-onward : countsOrbits rule ≡ true → previous ≤ difference * crossings + current
-  found-onward on = onward difference previous current (legal-first previous current low) (sym ran ∙ simp (counts ∙ on) at none)
-
-  pub found-row : (set : ℕ) {found : ℕ} {row : Row} → found ≡ foundBy rule difference previous current → row ≡ when (differ found set) 45 found set
-      → row ≡ intervalRow rule difference previous current set
-  found-row set e r =
-      let not-back : (countsOrbits rule && ranBack difference previous current) ≡ false = (λ i. sym counts i && sym ran i) ∙ none in
-      r ∙ (λ i. when (differ (e i) set) 45 (e i) set)
-      ∙ (λ i. cond (sym low i) (when true 1045 previous current) (cond (sym not-back i) (when true 1046 previous current) (when (differ (foundBy rule difference previous current) set) 45 (foundBy rule difference previous current) set)))
 
 -- "where rule 2 gives a period, its remainder by 3,564 is rule 1's": between legal crossings, where time did not run back.
 pub remainder : (difference previous current : ℕ) → Legal previous → Legal current → ranBack difference previous current ≡ false

@@ -2,14 +2,14 @@
 -- Assumes nothing.
 use Prim.Native.Nat.{ℕ, _+_, _-_, _*_, _/_, _%_, _^_, _≤_, _<_}
 use mathlib.Core.Path.{_≡_}
-use mathlib.Core.Bool.{Bool, true, cond, _&&_, _||_}
+use mathlib.Core.Bool.{Bool, cond, _&&_, _||_}
 use mathlib.Core.List.{List, [], _∷_}
 use lib.Dec.{leb, ltb, eqb}
 use Rattle.words.specs.declared.Word.{Word}
 use Rattle.words.specs.Word.{idOf, slice}
 use Rattle.words.specs.Tdh.{tdhId, maxBc, triggerType, internalTrigger, continuation, triggerBc, triggerOrbit, isReserved0}
 use Rattle.records.specs.declared.Row.{Row}
-use Rattle.records.specs.Records.{when, none}
+use Rattle.records.specs.Records.{when}
 use Rattle.validators.specs.declared.Rule.{Rule}
 use Rattle.validators.specs.declared.Settings.{Settings}
 use Rattle.validators.specs.declared.Packet.{Packet}
@@ -71,20 +71,22 @@ foundBy rule difference previous current =
 abbrev pub asked : Settings → InternalTdh → Word → Bool
 asked s earlier w = s .running && (s .periodic && (eqb (internalTrigger w) 1 && earlier .stored))
 
--- Of two internal TDHs and their orbit difference: "when either BC is above 3563, 1045 (previous, current); else 45 if the period differs (found, set)."
--- 02, ticket 9: "time ran back: record 1046 (previous, current BC) in place of 45. 1045 comes before both."
-abbrev pub intervalRow : Rule → ℕ → ℕ → ℕ → ℕ → Row
-intervalRow rule difference previous current set =
+-- Of two internal TDHs and their orbit difference, if they are looked at: "when either BC is above 3563, 1045 (previous, current); else 45 if the
+-- period differs (found, set)." 02, ticket 9: "time ran back: record 1046 (previous, current BC) in place of 45. 1045 comes before both."
+abbrev pub intervalRow : Bool → Rule → ℕ → ℕ → ℕ → ℕ → Row
+intervalRow looked rule difference previous current set =
+    let past = illegal previous current in
+    let back = countsOrbits rule && ranBack difference previous current in
     let found = foundBy rule difference previous current in
-    cond (illegal previous current) (when true 1045 previous current)
-    (cond (countsOrbits rule && ranBack difference previous current) (when true 1046 previous current) (when (differ found set) 45 found set))
+    when (looked && ((past || back) || differ found set))
+    (cond past 1045 (cond back 1046 45))
+    (cond (past || back) previous found)
+    (cond (past || back) current set)
 
--- "Interval: ..": no row where it is not asked.
+-- "Interval: ..", between this TDH and the last internal one before it.
 abbrev pub interval : Settings → InternalTdh → Word → Row
 interval s earlier w =
-    cond (asked s earlier w)
-    (intervalRow (s .rule) (orbitDifference (earlier .orbit) (triggerOrbit w)) (earlier .bc) (triggerBc w) (s .period))
-    none
+    intervalRow (asked s earlier w) (s .rule) (orbitDifference (earlier .orbit) (triggerOrbit w)) (earlier .bc) (triggerBc w) (s .period)
 
 -- "if page is 0 and (internal is 1 or bit 4 of packet trigger type is set)"
 abbrev pub matchesPacket : Packet → Word → Bool

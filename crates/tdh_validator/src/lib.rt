@@ -1,10 +1,10 @@
 // The records of a TDH, of each of its three kinds. 01, "Records": TDH, interval; the Rust's status_word/tdh.rs.
 ghost use mathlib.Core.Path.{_≡_};
-ghost use Prim.Native.Nat.{_+_, _*_, _≤_, _<_};
 ghost use Rattle.records.specs.Records.{padded};
-ghost use mathlib.Core.Bool.{true};
+ghost use mathlib.Core.Bool.{cond};
+ghost use lib.Dec.{ltb};
 ghost use Rattle.validators.specs.Rule.{countsOrbits};
-ghost use Rattle.tdh_validator.specs.Tdh.{detail, crossings, period, orbitDifference, ranBack, longPeriod, foundBy, intervalRow, interval, matchesPacket, tdhRows, afterPacketDoneRows, continuationRows};
+ghost use Rattle.tdh_validator.specs.Tdh.{detail, orbitDifference, ranBack, longPeriod, intervalRow, interval, matchesPacket, tdhRows, afterPacketDoneRows, continuationRows};
 use records::MOST;
 use records::Row;
 use records::none;
@@ -41,13 +41,6 @@ pub fn sanity_check(word: Word) -> u64
     )
 }
 
-// The one number below 3564 that added to the previous crossing gives the current one modulo 3564.
-fn trigger_period(previous: u16, current: u16) -> u16
-    ensures { λ r. ⌜ r ≡ period previous current ⌝ }
-{
-    ((current as u32 + 19 * CROSSINGS - previous as u32) % CROSSINGS) as u16
-}
-
 // How many orbits on, over the turn from 4,294,967,295 to 0.
 fn orbit_difference(previous: u32, current: u32) -> u32
     ensures { λ r. ⌜ r ≡ orbitDifference previous current ⌝ }
@@ -55,61 +48,70 @@ fn orbit_difference(previous: u32, current: u32) -> u32
     std::num::wrapping_sub_u32(current, previous)
 }
 
-fn ran_back(difference: u32, previous: u16, current: u16) -> bool
-    ensures { λ r. ⌜ r ≡ ranBack difference previous current ⌝ }
-{
-    (difference >= HALF_TURN) | ((difference == 0) & (current < previous))
-}
-
-// Rule 2, where time did not run back.
-fn long_period(difference: u32, previous: u16, current: u16) -> u64
-    requires { ⌜ previous ≤ difference * crossings + current ⌝ }
-    ensures { λ r. ⌜ r ≡ longPeriod difference previous current ⌝ }
-{
-    difference as u64 * CROSSINGS as u64 + current as u64 - previous as u64
-}
-
-// The period that a rule finds.
-fn found_by(rule: Rule, difference: u32, previous: u16, current: u16) -> u64
-    requires { ⌜ (countsOrbits rule ≡ true → previous ≤ difference * crossings + current) ⌝ }
-    ensures { λ r. ⌜ r ≡ foundBy rule difference previous current ⌝ }
+// The orbits that count. By rule 1 these are seen in the crossings alone: one, where the end of an orbit lies between them. So one formula serves both rules.
+fn orbits_counted(rule: Rule, difference: u32, previous: u16, current: u16) -> u32
+    ensures { λ r. ⌜ r ≡ cond (countsOrbits rule) difference (cond (ltb current previous) 1 0) ⌝ }
 {
     if rule.counts_orbits() {
-        return long_period(difference, previous, current);
+        return difference;
     }
-    trigger_period(previous, current) as u64
+    if current < previous { 1 } else { 0 }
 }
 
-// The record of two internal TDHs: 1045 where a crossing is past the last legal one; by rule 2, 1046 where time ran back; else 45 where the found period is
-// not the set one.
-fn check_period(rule: Rule, difference: u32, previous: u16, current: u16, set: u32) -> Row
-    ensures { λ r. ⌜ r ≡ intervalRow rule difference previous current set ⌝ }
+fn ran_back(orbits: u32, previous: u16, current: u16) -> bool
+    ensures { λ r. ⌜ r ≡ ranBack orbits previous current ⌝ }
 {
-    let past = (previous > Tdh::MAX_BC) | (current > Tdh::MAX_BC);
-    let back = rule.counts_orbits() & ran_back(difference, previous, current);
-    if past {
-        return when(true, 1045, previous as u64, current as u64);
-    }
-    if back {
-        return when(true, 1046, previous as u64, current as u64);
-    }
-    let found = found_by(rule, difference, previous, current);
-    when(found != set as u64, 45, found, set as u64)
+    (orbits >= HALF_TURN) | ((orbits == 0) & (current < previous))
 }
 
-// The period between this TDH and the last internal one before it, where one is set. Of any other TDH nothing is worked out.
+// Orbits and crossings; 0 where that would be less.
+fn long_period(orbits: u32, previous: u16, current: u16) -> u64
+    ensures { λ r. ⌜ r ≡ longPeriod orbits previous current ⌝ }
+{
+    let upto = orbits as u64 * CROSSINGS as u64 + current as u64;
+    let from = previous as u64;
+    if upto < from {
+        return 0;
+    }
+    upto - from
+}
+
+// The row of two internal TDHs: 1045 where a crossing is past the last legal one; by rule 2, 1046 where time ran back; else 45 where the found period is not
+// the set one.
+fn check_period(
+    looked: bool,
+    rule: Rule,
+    difference: u32,
+    previous: u16,
+    current: u16,
+    set: u32,
+) -> Row
+    ensures { λ r. ⌜ r ≡ intervalRow looked rule difference previous current set ⌝ }
+{
+    let orbits = orbits_counted(rule, difference, previous, current);
+    let past = (previous > Tdh::MAX_BC) | (current > Tdh::MAX_BC);
+    let back = ran_back(orbits, previous, current);
+    let found = long_period(orbits, previous, current);
+    let none = past | back;
+    when(
+        looked & (none | (found != set as u64)),
+        pick(past, 1045, pick(back, 1046, 45)),
+        pick(none, previous as u64, found),
+        pick(none, current as u64, set as u64),
+    )
+}
+
+// The interval between this TDH and the last internal one before it.
 pub fn check_trigger_interval(settings: Settings, earlier: InternalTdh, word: Word) -> Row
     ensures { λ r. ⌜ r ≡ interval settings earlier word ⌝ }
 {
     let tdh = Tdh { word: word };
     let internal = tdh.internal_trigger();
-    if settings.running & (settings.periodic & ((internal == 1) & earlier.stored)) {
-        let rule = settings.rule;
-        let difference = orbit_difference(earlier.orbit, tdh.trigger_orbit());
-        let bc = tdh.trigger_bc();
-        return check_period(rule, difference, earlier.bc, bc, settings.period);
-    }
-    none()
+    let looked = settings.running & (settings.periodic & ((internal == 1) & earlier.stored));
+    let rule = settings.rule;
+    let difference = orbit_difference(earlier.orbit, tdh.trigger_orbit());
+    let bc = tdh.trigger_bc();
+    check_period(looked, rule, difference, earlier.bc, bc, settings.period)
 }
 
 // Kind TDH: straight after an IHW.
