@@ -265,7 +265,7 @@ CALLS = ("words 4096 refused 3\nrefused 4 then 64 30 2 0\ndiffer 3564 sum 634926
          "page 0 start 0 three 1122 reset 0\npage 1 start 1121 three 0 reset 1121\n"
          "id 33 off on 1072\nid 40 off on\nid 41 off 991 70 on 991 70 1074\nid 71 off 991 70 on 991 70 1074 1073\n")
 
-# 02, ticket 9, two internal TDHs, each with its orbit and its crossing, by a rule and a set period: the records of the second. Its crossing being smaller
+# 02, ticket 9, by a rule and a set period two internal TDHs, each with its orbit and its crossing: the records of the second. Its crossing being smaller
 # than that of the first gives 440, whatever the orbits. 10,692 is three orbits; 2,147,483,647 orbits are 7,653,631,717,908 crossings; 4,294,967,295
 # crossings are 1,205,097 orbits and 1,587 crossings.
 CALLS += """\

@@ -258,12 +258,12 @@ fn show_lane(id: u8) {
 }
 
 // A TDH with internal trigger and no data.
-fn internal_tdh(orbit: u32, bc: u16) -> [u8; 10] {
+fn internal_tdh(orbit: u32, bc: u32) -> [u8; 10] {
     [
         0,
         0x30,
         (bc % 256) as u8,
-        (bc / 256) as u8,
+        (bc / 256 % 256) as u8,
         (orbit % 256) as u8,
         (orbit / 256 % 256) as u8,
         (orbit / 65536 % 256) as u8,
@@ -274,7 +274,7 @@ fn internal_tdh(orbit: u32, bc: u16) -> [u8; 10] {
 }
 
 // A rule by its number.
-fn rule_of(n: u8) -> Rule {
+fn rule_of(n: u32) -> Rule {
     if n == 2 { Rule::Two } else { Rule::One }
 }
 
@@ -290,33 +290,40 @@ fn show_record(code: u64, first: u64, second: u64) {
     }
 }
 
-// "Slow scans trigger every third orbit": the records of the second of two internal TDHs, by a rule and a set period.
-fn show_interval(rule: u8, set: u32, orbit: u32, bc: u16, next_orbit: u32, next_bc: u16) {
+// An orbit and a crossing of it.
+fn show_place(orbit: u32, bc: u32) {
+    number(orbit as u64);
+    text(b" ");
+    number(bc as u64);
+}
+
+// "Slow scans trigger every third orbit": the records of the second of two internal TDHs.
+fn show_records(rule: u32, set: u32, orbit: u32, bc: u32, next_orbit: u32, next_bc: u32) {
+    let mut out = [0u64; 24];
+    let begun = packet_by_rule(true, set, rule_of(rule), 0).word(
+        b"\0\0\0\0\0\0\0\0\0\xE0",
+        &mut out,
+    );
+    let earlier = begun.tracker.word(&internal_tdh(orbit, bc), &mut out);
+    let mut told = [0u64; 24];
+    earlier
+        .tracker
+        .word(&internal_tdh(next_orbit, next_bc), &mut told);
+    show_record(told[1], told[2], told[3]);
+    show_record(told[5], told[6], told[7]);
+}
+
+fn show_interval(rule: u32, set: u32, orbit: u32, bc: u32, next_orbit: u32, next_bc: u32) {
     text(b"rule ");
     number(rule as u64);
     text(b" set ");
     number(set as u64);
     text(b" from ");
-    number(orbit as u64);
-    text(b" ");
-    number(bc as u64);
+    show_place(orbit, bc);
     text(b" to ");
-    number(next_orbit as u64);
-    text(b" ");
-    number(next_bc as u64);
+    show_place(next_orbit, next_bc);
     text(b":");
-    let mut before = [0u64; 24];
-    let begun = packet_by_rule(true, set, rule_of(rule), 0).word(
-        b"\0\0\0\0\0\0\0\0\0\xE0",
-        &mut before,
-    );
-    let earlier = begun.tracker.word(&internal_tdh(orbit, bc), &mut before);
-    let mut out = [0u64; 24];
-    earlier
-        .tracker
-        .word(&internal_tdh(next_orbit, next_bc), &mut out);
-    show_record(out[1], out[2], out[3]);
-    show_record(out[5], out[6], out[7]);
+    show_records(rule, set, orbit, bc, next_orbit, next_bc);
     text(b"\n");
 }
 
