@@ -1,7 +1,7 @@
 -- How the code finds a period: one formula serves both rules. Rule 1's period is rule 2's over one orbit where the crossing is smaller, and over none
 -- else; and so counted, time never runs back.
 -- Assumes nothing.
-use Prim.Native.Nat.{ℕ, _*_, _+_, _≤_}
+use Prim.Native.Nat.{ℕ}
 use mathlib.Core.Path.{_≡_, refl, _∙_}
 use mathlib.Core.Bool.{Bool, true, false, cond, _&&_, _||_, true≢false}
 use native.Mathlib.Omega.{arith}
@@ -14,7 +14,7 @@ use Rattle.validators.specs.declared.Rule.{Rule}
 use Rattle.validators.specs.declared.Rule.the-variants as R
 use Rattle.validators.specs.Rule.{countsOrbits}
 use Rattle.validators.specs.Detail.{differ}
-use Rattle.tdh_validator.specs.Tdh.{Legal, crossings, period, illegal, ranBack, longPeriod, foundBy, intervalRow}
+use Rattle.tdh_validator.specs.Tdh.{Legal, period, illegal, ranBack, longPeriod, foundBy, intervalRow}
 
 legal-both : (previous current : ℕ) → illegal previous current ≡ false → Legal previous × Legal current
 legal-both p c e = at (ltb maxBc p) (ltb maxBc c) refl refl e

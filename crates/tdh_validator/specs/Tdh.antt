@@ -59,7 +59,8 @@ orbitDifference previous current = (current + (2 ^ 32 - previous % 2 ^ 32)) % 2 
 abbrev pub ranBack : ℕ → ℕ → ℕ → Bool
 ranBack difference previous current = leb (2 ^ 31) difference || (eqb difference 0 && ltb current previous)
 
--- "rule 2 ..: orbit difference times 3,564 plus current less previous". It is asked where time did not run back, so nothing is cut off at 0.
+-- "rule 2 ..: orbit difference times 3,564 plus current less previous". It is told where both crossings are legal and time did not run back, and there
+-- nothing is cut off at 0 (proofs/Orbits.antt, `onward`).
 abbrev pub longPeriod : ℕ → ℕ → ℕ → ℕ
 longPeriod difference previous current = difference * crossings + current - previous
 
