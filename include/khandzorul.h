@@ -53,7 +53,7 @@ extern "C" {
 #define KHZ_FILE_BYTES 60000                     /* bytes that a bench file has at most */
 #define KHZ_LAST_CROSSING 3563                   /* the last legal crossing of an orbit; no period is taken past it */
 #define KHZ_POSITION_MAX ((uint64_t)1 << 62)     /* the largest position of a packet */
-#define KHZ_PERIOD_MAX UINT32_MAX                /* the largest period, 4,294,967,295 crossings */
+#define KHZ_PERIOD_MAX ((uint64_t)4294967295u)   /* the largest period, in crossings */
 
 #if defined(__GNUC__)
 #define KHZ_ANSWER __attribute__((warn_unused_result))
