@@ -1,5 +1,5 @@
--- 02, ticket 9: the orbit difference is one, and no other number is. Where rule 2 gives a period, its remainder by 3564 is rule 1's, and it is the number
--- of crossings from the one trigger to the other.
+-- 02, ticket 9: the orbit difference is one, and no other number is. Where rule 2 gives a period, its remainder by 3564 is rule 1's; and where fewer than
+-- 2^31 orbits lie between two triggers, it is the number of crossings from the one to the other.
 -- Assumes nothing.
 use Prim.Native.Nat.{ℕ, _+_, _-_, _*_, _%_, _≤_, _<_, _^_}
 use mathlib.Core.Path.{_≡_, refl}
@@ -31,8 +31,8 @@ pub remainder : (difference previous current : ℕ) → Legal previous → Legal
     → longPeriod difference previous current % crossings ≡ period previous current
 remainder d p c legal legal′ e = let h = onward d p c legal e in omega (arith, h)
 
--- Orbits counted from anywhere, however far: of the later of two triggers, with fewer than 2^31 orbits from the one to the other, rule 2 finds the
--- crossings from the first to the second, over as many turns of the orbit number as lie between.
+-- Orbits counted without a bound, of which a TDH has the remainder by 2^32: of the later of two triggers, with fewer than 2^31 orbits from the one to the
+-- other, rule 2 finds the crossings from the first to the second, also where the orbit number turns over between them.
 module _ (o o′ p c : ℕ) (legal : Legal p) (legal′ : Legal c) (later : o * crossings + p ≤ o′ * crossings + c) (near : o′ < o + 2 ^ 31) where
   orbits-on : orbitDifference (o % 2 ^ 32) (o′ % 2 ^ 32) ≡ o′ - o
   orbits-on = omega arith
@@ -57,7 +57,7 @@ over-the-turn = refl
 pub the-same : longPeriod (orbitDifference 7 7) 5 5 ≡ 0
 the-same = refl
 
--- Time ran back: a smaller crossing in the same orbit; an orbit back, whatever the crossings; 2^31 orbits on, and not yet at one less.
+-- Time ran back: a smaller crossing in the same orbit; an orbit back, though the crossing is larger; 2^31 orbits on, and not yet at one less.
 pub back-in-the-orbit : ranBack (orbitDifference 7 7) 5 4 ≡ true
 back-in-the-orbit = refl
 

@@ -1,13 +1,14 @@
 -- The found period: it is one, and no other number is. A period of 3564 is never found. What a record tells of it.
 -- Assumes nothing.
 use Prim.Native.Nat.{ℕ, _+_, _%_, _<_}
-use mathlib.Core.Path.{_≡_}
+use mathlib.Core.Path.{_≡_, _∙_}
 use mathlib.Core.Bool.{true, false, _&&_}
 use native.Mathlib.Omega.{arith}
 use borrow.Author.Tests.{le-ltb}
 use Rattle.words.specs.declared.Word.{Word}
 use Rattle.words.specs.Tdh.{maxBc, triggerBc, triggerOrbit}
 use Rattle.records.specs.Records.{when}
+use Rattle.validators.specs.declared.Rule.{Rule}
 use Rattle.validators.specs.declared.Rule.the-variants as R
 use Rattle.validators.specs.declared.Settings.{Settings}
 use Rattle.validators.specs.declared.InternalTdh.{InternalTdh}
@@ -38,4 +39,6 @@ found-told s earlier w legal legal′ looked onward =
 -- By rule 1 that is the found period, whatever the orbits.
 pub period-told : (s : Settings) (earlier : InternalTdh) (w : Word) → s .rule ≡ R.One → Legal (earlier .bc) → Legal (triggerBc w) → asked s earlier w ≡ true
     → interval s earlier w ≡ when (differ (period (earlier .bc) (triggerBc w)) (s .period)) 45 (period (earlier .bc) (triggerBc w)) (s .period)
-period-told s earlier w one legal legal′ looked = simp (one, le-ltb maxBc (earlier .bc) legal, le-ltb maxBc (triggerBc w) legal′, looked)
+period-told s earlier w one legal legal′ looked =
+    let found : Rule → ℕ = λ r. foundBy r (orbitDifference (earlier .orbit) (triggerOrbit w)) (earlier .bc) (triggerBc w) in
+    found-told s earlier w legal legal′ looked (simp one) ∙ (λ i. when (differ (found (one i)) (s .period)) 45 (found (one i)) (s .period))
