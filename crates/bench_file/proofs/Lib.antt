@@ -1,4 +1,3 @@
-pub mod Fields
 pub mod Checking
 pub mod Finding
 pub mod Reading
@@ -9,4 +8,3 @@ pub mod Moving
 pub mod Made
 pub mod Passing
 pub mod Placed
-pub mod Edges

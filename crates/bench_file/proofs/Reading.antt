@@ -14,8 +14,8 @@ use lib.Dec.{leb, eqb}
 use lib.ListN.{length}
 use denote.Ref.{RefT, now}
 use Rattle.words.specs.Word.{wordBytes}
-use Rattle.validators.specs.declared.Packet.{Packet}
-use Rattle.cdp_running.specs.Tracker.{inRange, maxWords}
+use Rattle.packet.specs.declared.Packet.{Packet}
+use Rattle.packet.specs.Packet.{inRange, maxWords}
 use Rattle.bench_file.specs.declared.Found.the-variants as F
 use Rattle.bench_file.specs.File.{packets, words, packetPlace, packetAt, countAt, wordPlace, bytesAt, wordsBefore, misfit, packetRefusal, firstRefusal, checkOf}
 use Rattle.bench_file.specs.Items.{Item, packet, word, wordItems, packetItems, items, itemsFrom}

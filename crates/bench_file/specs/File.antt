@@ -5,9 +5,10 @@ use mathlib.Core.Bool.{Bool, cond, not, _||_}
 use mathlib.Core.List.{List}
 use lib.Dec.{leb, ltb, eqb}
 use lib.ListN.{length, take, drop}
-use Rattle.words.specs.Word.{wordBytes, number}
-use Rattle.validators.specs.declared.Packet.{Packet}
-use Rattle.cdp_running.specs.Tracker.{inRange, maxWords}
+use Rattle.words.specs.Word.{wordBytes}
+use Rattle.words.specs.LittleEndian.{numberAt}
+use Rattle.packet.specs.declared.Packet.{Packet}
+use Rattle.packet.specs.Packet.{inRange, maxWords}
 
 abbrev pub headerBytes : ℕ
 headerBytes = 16
@@ -19,38 +20,34 @@ packetBytes = 24
 abbrev pub mostBytes : ℕ
 mostBytes = 60000
 
--- "Little-endian": the number of n bytes at a place.
-unfoldable pub field : List ℕ → ℕ → ℕ → ℕ
-field file at n = number (take n (drop at file))
-
 -- "header: packet count, word count, packet offset 16, word offset 16 + 24 times packets, 32 bits each"
 abbrev pub packets : List ℕ → ℕ
-packets file = field file 0 4
+packets file = numberAt file 0 4
 
 abbrev pub words : List ℕ → ℕ
-words file = field file 4 4
+words file = numberAt file 4 4
 
 abbrev pub packetOffset : List ℕ → ℕ
-packetOffset file = field file 8 4
+packetOffset file = numberAt file 8 4
 
 abbrev pub wordOffset : List ℕ → ℕ
-wordOffset file = field file 12 4
+wordOffset file = numberAt file 12 4
 
 -- "A packet: position 8 bytes, orbit 4, trigger 4, BC 2, page 2, stop 1, format 1, word count 2."
 abbrev pub packetOf : List ℕ → ℕ → Packet
 packetOf file at =
     record {
-      position = field file at 8;
-      orbit = field file (at + 8) 4;
-      trigger = field file (at + 12) 4;
-      bc = field file (at + 16) 2;
-      page = field file (at + 18) 2;
-      stop = field file (at + 20) 1;
-      format = field file (at + 21) 1;
+      position = numberAt file at 8;
+      orbit = numberAt file (at + 8) 4;
+      trigger = numberAt file (at + 12) 4;
+      bc = numberAt file (at + 16) 2;
+      page = numberAt file (at + 18) 2;
+      stop = numberAt file (at + 20) 1;
+      format = numberAt file (at + 21) 1;
     }
 
 abbrev pub countOf : List ℕ → ℕ → ℕ
-countOf file at = field file (at + 22) 2
+countOf file at = numberAt file (at + 22) 2
 
 -- Packet i, from 0, and its word count.
 abbrev pub packetPlace : ℕ → ℕ

@@ -2,7 +2,7 @@
 -- Assumes nothing.
 use Prim.Native.Nat.{ℕ, zero, suc, _+_, _-_}
 use mathlib.Core.List.{List, [], _∷_, _++_}
-use Rattle.validators.specs.declared.Packet.{Packet}
+use Rattle.packet.specs.declared.Packet.{Packet}
 use Rattle.bench_file.specs.File.{packets, packetAt, countAt, wordPlace, bytesAt}
 
 -- A packet with its word count, or a word with its place and its ten bytes.

@@ -8,12 +8,13 @@ use lib.Dec.{leb, ltb, eqb}
 use lib.ListN.{length}
 use denote.Ref.{RefT, now}
 use Rattle.words.specs.Word.{wordBytes}
-use Rattle.validators.specs.declared.Packet.{Packet}
-use Rattle.cdp_running.specs.Tracker.{inRange, maxWords}
+use Rattle.words.specs.LittleEndian.{numberAt}
+use Rattle.packet.specs.declared.Packet.{Packet}
+use Rattle.packet.specs.Packet.{inRange, maxWords}
 use Rattle.bench_file.specs.declared.FileReader.{FileReader}
 use Rattle.bench_file.specs.declared.Found.{Found}
 use Rattle.bench_file.specs.declared.Found.the-variants as F
-use Rattle.bench_file.specs.File.{mostBytes, headerBytes, packetBytes, field, packets, words, packetPlace, packetAt, countAt, wordPlace, bytesAt, wordsBefore}
+use Rattle.bench_file.specs.File.{mostBytes, headerBytes, packetBytes, packets, words, packetPlace, packetAt, countAt, wordPlace, bytesAt, wordsBefore}
 use Rattle.bench_file.specs.Items.{Item, packet, word}
 
 -- A reader at a place: the file's bytes, the next packet and the next word.
@@ -22,7 +23,7 @@ readerAt bytes i n = record { bytes = bytes; packet = i; word = n }
 
 -- A number of the header, for who asks it of any bytes: `packets` is at 0 and `words` at 4. In fewer bytes than a header has it is 0.
 unfoldable pub headerNumber : List ℕ → ℕ → ℕ
-headerNumber file at = cond (ltb (length file) headerBytes) 0 (field file at 4)
+headerNumber file at = cond (ltb (length file) headerBytes) 0 (numberAt file at 4)
 
 -- Whether there is a packet i, a word n: the header counts it, and its bytes lie in the file.
 abbrev pub hasPacket : List ℕ → ℕ → Bool

@@ -5,18 +5,17 @@ ghost use Prim.Native.Nat.{_+_, _<_, _≤_, _^_};
 ghost use lib.ListN.{length};
 ghost use Rattle.bench_file.specs.File.{headerBytes, packetBytes, packetPlace, packetOf, wordsBefore, misfit, refusalBy, packetRefusal, firstRefusal, checkOf};
 ghost use Rattle.bench_file.specs.Reader.{readerAt, headerNumber, hasPacket, hasWord, pastPacket, pastWord, afterPacket, afterWord, NextPacketPost, NextWordPost, NextPost};
-
-mod little_endian;
-
-use cdp_running::MAX_WORDS;
-use cdp_running::REFUSED_FULL;
-use cdp_running::REFUSED_PACKET;
-use little_endian::get8;
-use little_endian::get16;
-use little_endian::get32;
-use little_endian::get64;
-use validators::Packet;
+use packet::MAX_WORDS;
+use packet::Packet;
+use packet::REFUSED_COUNTS;
+use packet::REFUSED_FILE;
+use packet::REFUSED_FULL;
+use packet::REFUSED_PACKET;
 use words::Word;
+use words::little_endian::get8;
+use words::little_endian::get16;
+use words::little_endian::get32;
+use words::little_endian::get64;
 
 // The longest file.
 pub const MOST_BYTES: usize = 60000;
@@ -24,11 +23,6 @@ pub const MOST_BYTES: usize = 60000;
 pub const HEADER_BYTES: usize = 16;
 
 pub const PACKET_BYTES: usize = 24;
-
-// Refusals of a file, beside those of its packets.
-pub const REFUSED_FILE: u8 = 6;
-
-pub const REFUSED_COUNTS: u8 = 7;
 
 // A file and a place in it: the next packet, and the next word of the whole file, both from 0.
 pub struct FileReader<'a> {
@@ -109,7 +103,7 @@ fn packet_refusal(file: &[u8], at: usize) -> u8
     requires { ⌜ at + packetBytes ≤ length (now file) ⌝ }
     ensures { λ r. ⌜ r ≡ packetRefusal (now (file .entry)) at ⌝ }
 {
-    let in_range = cdp_running::in_range(load_packet(file, at));
+    let in_range = packet::in_range(load_packet(file, at));
     let few = get16(file, at + 22) <= MAX_WORDS as u64;
     refusal_by(in_range, few)
 }

@@ -11,16 +11,17 @@ use Rattle.words.specs.declared.Word.{Word}
 use Rattle.words.specs.declared.FromBuf.{FromBuf}
 use Rattle.words.specs.declared.FromBuf.the-variants as B
 use Rattle.words.specs.Word.{wordOf, fromBuf}
+use Rattle.packet.specs.declared.Packet.{Packet}
+use Rattle.packet.specs.Packet.{inRange, maxWords}
 use Rattle.payload_fsm.specs.declared.Advanced.{Advanced}
 use Rattle.records.specs.declared.Row.{Row}
 use Rattle.records.specs.declared.Written.{Written}
 use Rattle.records.specs.declared.Written.the-variants.{Records, NoRoom}
 use Rattle.records.specs.Records.{given, flat, room, over, exceed, padded, WritePost}
 use Rattle.records.proofs.Given.{given-padded}
-use Rattle.validators.specs.declared.Packet.{Packet}
 use Rattle.cdp_running.specs.declared.Tracker.{Tracker}
 use Rattle.cdp_running.specs.declared.WordAnswer.{WordAnswer}
-use Rattle.cdp_running.specs.Tracker.{Good, inRange, maxWords, packetCall, acceptOf, PacketPost}
+use Rattle.cdp_running.specs.Tracker.{Good, packetCall, acceptOf, PacketPost}
 use Rattle.cdp_running.specs.Word.{takenAs, positionNow, rowsOf, recordsOf, Outcome, refused, takenOf, takenAnswer, wordCall, answerOf, recordsIn, WordPost}
 use Rattle.cdp_running.proofs.Good.{good-accept, good-next}
 

@@ -10,12 +10,12 @@ use Rattle.words.specs.Word.{idOf}
 use Rattle.words.specs.Tdh.{triggerBc, triggerOrbit}
 use Rattle.words.specs.Lanes.{laneAnswer, isMissing}
 use Rattle.data_ids.specs.DataIds.{innerLane, outerLane}
+use Rattle.packet.specs.Settings.{countsOrbits}
 use Rattle.payload_fsm.specs.declared.ItsPayloadWord.{ItsPayloadWord}
 use Rattle.payload_fsm.specs.declared.ItsPayloadWord.the-variants as K
 use Rattle.payload_fsm.proofs.Rows.{choice}
 use Rattle.records.specs.Records.{Each}
 use Rattle.records.proofs.Given.{given-each, each-so}
-use Rattle.validators.specs.Rule.{countsOrbits}
 use Rattle.tdh_validator.specs.Tdh.{illegal, orbitDifference, ranBack, interval}
 use Rattle.cdp_running.specs.declared.Tracker.{Tracker}
 use Rattle.cdp_running.specs.Word.{rowsAs, rowsOf, takenAs, positionNow, recordsOf}

@@ -7,15 +7,16 @@ use mathlib.Core.List.{List, [], _∷_}
 use native.Mathlib.Omega.{arith}
 use lib.ListN.{length}
 use Rattle.words.specs.declared.Word.{Word}
+use Rattle.packet.specs.Packet.{mostPosition, maxWords}
+use Rattle.packet.proofs.Places.{position-most}
 use Rattle.payload_fsm.specs.declared.ItsPayloadWord.{ItsPayloadWord}
 use Rattle.payload_fsm.specs.declared.ItsPayloadWord.the-variants as K
 use Rattle.records.specs.declared.Row.{Row}
 use Rattle.records.specs.Records.{count, Each}
 use Rattle.records.proofs.Given.{counted, given-each}
 use Rattle.cdp_running.specs.declared.Tracker.{Tracker}
-use Rattle.cdp_running.specs.Tracker.{Good, mostPosition, maxWords}
+use Rattle.cdp_running.specs.Tracker.{Good}
 use Rattle.cdp_running.specs.Word.{rowsAs, rowsOf, takenAs, positionNow, recordsOf}
-use Rattle.cdp_running.proofs.Good.{position-most}
 
 count-low : (rows : List Row) → count rows ≤ length rows
 unfolding count
@@ -54,4 +55,4 @@ module _ (t : Tracker) (w : Word) where
     where
       all : (rows : List Row) → Each (λ row. row .on ≡ true → positionNow t ≤ mostPosition) rows
       all [] = tt
-      all (row ∷ rows) = (λ _. position-most t g h, all rows)
+      all (row ∷ rows) = (λ _. position-most (t .packet) (t .count) (g .packet) h, all rows)

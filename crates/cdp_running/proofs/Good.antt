@@ -12,21 +12,23 @@ use Rattle.words.specs.declared.Word.{Word}
 use Rattle.words.specs.Tdh.{triggerType, internalTrigger, triggerBc, triggerOrbit}
 use Rattle.words.specs.Ihw.{activeLanes}
 use Rattle.words.proofs.Bits.{bits-below}
+use Rattle.packet.specs.declared.Settings.{Settings}
+use Rattle.packet.specs.declared.Packet.{Packet}
+use Rattle.packet.specs.Packet.{inRange, maxPosition, mostPosition, maxWords, positionOf, noPacket}
+use Rattle.packet.proofs.Places.{position-most}
 use Rattle.payload_fsm.specs.declared.ItsPayloadWord.{ItsPayloadWord}
 use Rattle.payload_fsm.specs.Kinds.{isIhw, isTdh, isData, isTdt}
 use Rattle.payload_fsm.specs.Step.{start}
-use Rattle.payload_fsm.proofs.Rows.{choice}
-use Rattle.validators.specs.declared.Settings.{Settings}
-use Rattle.validators.specs.declared.Packet.{Packet}
-use Rattle.validators.specs.declared.StoredTdh.{StoredTdh}
-use Rattle.validators.specs.declared.InternalTdh.{InternalTdh}
-use Rattle.validators.specs.declared.StoredCdw.{StoredCdw}
-use Rattle.validators.specs.DataWords.{firstCdw}
+use Rattle.stored.proofs.Good.{good-ihw, good-tdh, good-internal, good-cdw, good-frame, kept-ihw, kept-tdh}
+use Rattle.stored.specs.declared.StoredTdh.{StoredTdh}
+use Rattle.stored.specs.declared.InternalTdh.{InternalTdh}
+use Rattle.stored.specs.declared.StoredCdw.{StoredCdw}
+use Rattle.stored.specs.Stored.{firstCdw, nextIhw, nextTdh, nextInternal, nextCdw, opens, closes, nextFrame}
 use Rattle.stored.specs.declared.StoredIhw.{StoredIhw}
 use Rattle.stored.specs.declared.Frame.{Frame}
-use Rattle.stored.specs.Stored.{nextIhw, nextTdh, nextInternal, nextCdw, opens, closes, noFrame, nextFrame}
+use Rattle.stored.specs.Kept.{noFrame, GoodIhw, GoodTdh, GoodInternal, GoodCdw, GoodFrame, noIhw, noTdh, noInternal, noCdw}
 use Rattle.cdp_running.specs.declared.Tracker.{Tracker}
-use Rattle.cdp_running.specs.Tracker.{Good, GoodIhw, GoodTdh, GoodInternal, GoodCdw, GoodFrame, startOf, resetOf, acceptOf, inRange, maxPosition, mostPosition, maxWords, positionOf, pastIhw, pastTdh, noPacket, noIhw, noTdh, noInternal, noCdw}
+use Rattle.cdp_running.specs.Tracker.{Good, startOf, resetOf, acceptOf, pastIhw, pastTdh}
 use Rattle.cdp_running.specs.Next.{nextOf}
 use Rattle.cdp_running.specs.Word.{takenAs, positionNow}
 use Rattle.cdp_running.proofs.Presence.{comes}
@@ -109,61 +111,6 @@ good-accept t p g e =
       fresh = λ f. clash f;
     }
 
-pub position-low : (p : Packet) → inRange p ≡ true → p .position ≤ maxPosition
-position-low p e = leb-true (p .position) maxPosition (both (leb (p .position) maxPosition) _ e .0)
-
--- The step from word to word is 16 or 10.
-stride : (b : Bool) → cond b 16 10 ≤ 16
-stride true = omega arith
-stride false = omega arith
-
-pub position-most : (t : Tracker) → Good t → t .count < maxWords → positionNow t ≤ mostPosition
-position-most t g h =
-    let step = stride (eqb (t .packet .format) 0) in
-    let low = position-low (t .packet) (g .packet) in
-    let here : t .count * cond (eqb (t .packet .format) 0) 16 10 ≤ t .count * 16 = mul-le-mul-left (t .count) step in
-    omega arith
-
--- Each stored thing after a word.
-good-ihw : (kind : ItsPayloadWord) (w : Word) (old : StoredIhw) → GoodIhw old → GoodIhw (nextIhw kind w old)
-good-ihw kind w old g = choice GoodIhw (isIhw kind) (record { lanes = bits-below 27 0 w; absent = λ e. clash e }) g
-
-good-tdh : (kind : ItsPayloadWord) (w : Word) (old : StoredTdh) → GoodTdh old → GoodTdh (nextTdh kind w old)
-good-tdh kind w old g = choice GoodTdh (isTdh kind) (record { trigger = bits-below 11 0 w; bc = bits-below 27 16 w; absent = λ e. clash e }) g
-
-good-internal : (kind : ItsPayloadWord) (w : Word) (old : InternalTdh) → GoodInternal old → GoodInternal (nextInternal kind w old)
-good-internal kind w old g =
-    choice GoodInternal (isTdh kind && eqb (internalTrigger w) 1) (record { bc = bits-below 27 16 w; absent = λ e. clash e }) g
-
-good-cdw : (kind : ItsPayloadWord) (seen : Bool) (w : Word) (old : StoredCdw) → GoodCdw old → GoodCdw (nextCdw kind seen w old)
-good-cdw kind seen w old g =
-    choice GoodCdw (isData kind && firstCdw seen w) (record { user = bits-below 47 0 w; absent = λ e. clash e }) g
-
--- A frame opens with frames on alone.
-good-frame : (frames : Bool) (kind : ItsPayloadWord) (w : Word) (position : ℕ) (old : Frame) → position ≤ mostPosition → GoodFrame frames old
-    → GoodFrame frames (nextFrame frames kind w position old)
-good-frame true kind w position old h g =
-    choice (GoodFrame true) (opens true kind w old) (record { start = h; absent = λ e. clash e; off = λ e. clash e })
-    (choice (GoodFrame true) (closes true kind w) (record { start = omega arith; absent = λ _. refl; off = λ _. refl }) g)
-good-frame false kind w position old h g = simp and-false g
-
--- What was taken is stored, and what was stored stays.
-kept-ihw : (kind : ItsPayloadWord) (w : Word) (old : StoredIhw) (after : Bool) → (after ≡ true → old .stored ≡ true)
-    → (isIhw kind || after) ≡ true → nextIhw kind w old .stored ≡ true
-kept-ihw kind w old after h e = at (isIhw kind) e
-  where
-    at : (b : Bool) → (b || after) ≡ true → cond b (record { stored = true; lanes = activeLanes w }) old .stored ≡ true
-    at true e = refl
-    at false e = h e
-
-kept-tdh : (kind : ItsPayloadWord) (w : Word) (old : StoredTdh) (after : Bool) → (after ≡ true → old .stored ≡ true)
-    → (isTdh kind || after) ≡ true → nextTdh kind w old .stored ≡ true
-kept-tdh kind w old after h e = at (isTdh kind) e
-  where
-    at : (b : Bool) → (b || after) ≡ true → cond b (record { stored = true; trigger = triggerType w; bc = triggerBc w; orbit = triggerOrbit w }) old .stored ≡ true
-    at true e = refl
-    at false e = h e
-
 pub good-next : (t : Tracker) (w : Word) → Good t → t .accepted ≡ true → t .count < maxWords → Good (nextOf t (takenAs t w) w)
 good-next t w g have h =
     let a = takenAs t w in
@@ -176,7 +123,7 @@ good-next t w g have h =
       tdh = good-tdh (a .word) w (t .tdh) (g .tdh);
       internal = good-internal (a .word) w (t .internal) (g .internal);
       cdw = good-cdw (a .word) (t .seen) w (t .cdw) (g .cdw);
-      frame = good-frame (t .settings .frames) (a .word) w (positionNow t) (t .frame) (position-most t g h) (g .frame);
+      frame = good-frame (t .settings .frames) (a .word) w (positionNow t) (t .frame) (position-most (t .packet) (t .count) (g .packet) h) (g .frame);
       ihw-present = λ e. kept-ihw (a .word) w (t .ihw) (pastIhw (t .fsm .state)) (g .ihw-present) (c .ihw e);
       tdh-present = λ e. kept-tdh (a .word) w (t .tdh) (pastTdh (t .fsm .state)) (g .tdh-present) (c .tdh e);
       fresh = λ e. clash (sym have ∙ e);

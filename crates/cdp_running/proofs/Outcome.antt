@@ -8,11 +8,11 @@ use lib.Dec.{leb, eqb}
 use lib.ListN.{length}
 use borrow.Author.Tests.{eqb-true, leb-false, eq-eqb, lt-leb}
 use Rattle.words.specs.Word.{wordOf}
+use Rattle.packet.specs.Packet.{maxWords}
 use Rattle.payload_fsm.specs.declared.ItsPayloadWord.{ItsPayloadWord}
 use Rattle.records.specs.Records.{Record, exceed}
 use Rattle.stored.specs.declared.FrameTold.{FrameTold}
 use Rattle.cdp_running.specs.declared.Tracker.{Tracker}
-use Rattle.cdp_running.specs.Tracker.{maxWords}
 use Rattle.cdp_running.specs.Next.{nextOf}
 use Rattle.cdp_running.specs.Word.{takenAs, recordsOf, Outcome, taken, refused, takenOf, wordCall}
 

@@ -20,7 +20,7 @@ use Rattle.payload_fsm.proofs.States.{isInitial, three-is, start-or-three}
 use Rattle.records.specs.declared.Row.{Row}
 use Rattle.records.specs.Records.{Each, given}
 use Rattle.records.proofs.Given.{given-each, each-so}
-use Rattle.validators.specs.Detail.{differ}
+use Rattle.records.specs.Detail.{differ}
 use Rattle.cdp_running.specs.declared.Tracker.{Tracker}
 use Rattle.cdp_running.specs.Word.{rowsAs, rowsOf, takenAs, positionNow, recordsOf}
 use Rattle.cdp_running.proofs.Codes.{among, codesAs, not-in, rows-in}

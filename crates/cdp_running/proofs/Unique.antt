@@ -4,8 +4,8 @@ use mathlib.Core.Path.{_≡_}
 use mathlib.Core.List.{List}
 use Prim.Native.Nat.{ℕ}
 use Rattle.words.proofs.Unique.{unique}
-use Rattle.validators.specs.declared.Packet.{Packet}
-use Rattle.validators.specs.declared.Settings.{Settings}
+use Rattle.packet.specs.declared.Packet.{Packet}
+use Rattle.packet.specs.declared.Settings.{Settings}
 use Rattle.cdp_running.specs.declared.Tracker.{Tracker}
 use Rattle.cdp_running.specs.declared.PacketAnswer.{PacketAnswer}
 use Rattle.cdp_running.specs.declared.WordAnswer.{WordAnswer}

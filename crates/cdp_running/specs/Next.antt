@@ -2,10 +2,10 @@
 -- Assumes nothing.
 use Prim.Native.Nat.{_+_}
 use Rattle.words.specs.declared.Word.{Word}
+use Rattle.packet.specs.Packet.{positionOf}
 use Rattle.payload_fsm.specs.declared.Advanced.{Advanced}
 use Rattle.stored.specs.Stored.{nextIhw, nextTdh, nextInternal, nextCdw, nextSeen, nextFrame}
 use Rattle.cdp_running.specs.declared.Tracker.{Tracker}
-use Rattle.cdp_running.specs.Tracker.{positionOf}
 
 -- The tracker after a word that was taken as `a` says.
 abbrev pub nextOf : Tracker → Advanced → Word → Tracker

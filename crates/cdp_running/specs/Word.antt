@@ -8,23 +8,24 @@ use lib.Dec.{leb, eqb}
 use lib.ListN.{length}
 use Rattle.words.specs.declared.Word.{Word}
 use Rattle.words.specs.Word.{wordBytes, wordOf}
+use Rattle.packet.specs.Packet.{maxWords, positionOf}
 use Rattle.payload_fsm.specs.declared.ItsPayloadWord.{ItsPayloadWord}
 use Rattle.payload_fsm.specs.declared.ItsPayloadWord.the-variants as K
 use Rattle.payload_fsm.specs.declared.Advanced.{Advanced}
 use Rattle.payload_fsm.specs.Step.{advanceOf, isThree}
 use Rattle.records.specs.declared.Row.{Row}
 use Rattle.records.specs.Records.{Record, given, flat, room, over, exceed}
+use Rattle.stored.specs.declared.FrameTold.{FrameTold}
+use Rattle.stored.specs.Stored.{frameTold, lanesTold}
 use Rattle.validators.specs.Ihw as Ihw
-use Rattle.tdh_validator.specs.Tdh as Tdh
 use Rattle.validators.specs.Tdt as Tdt
 use Rattle.validators.specs.Ddw as Ddw
 use Rattle.validators.specs.DataWords as DataWords
-use Rattle.stored.specs.declared.FrameTold.{FrameTold}
-use Rattle.stored.specs.Stored.{frameTold, lanesTold}
+use Rattle.tdh_validator.specs.Tdh as Tdh
 use Rattle.cdp_running.specs.declared.Tracker.{Tracker}
 use Rattle.cdp_running.specs.declared.Told.the-variants.{Taken, Refused}
 use Rattle.cdp_running.specs.declared.WordAnswer.{WordAnswer}
-use Rattle.cdp_running.specs.Tracker.{Good, maxWords, positionOf}
+use Rattle.cdp_running.specs.Tracker.{Good}
 use Rattle.cdp_running.specs.Next.{nextOf}
 
 -- What a word is taken as.

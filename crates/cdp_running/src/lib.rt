@@ -2,12 +2,21 @@
 // Document 01, "Calls and settings" and "Records"; the Rust's cdp_running.rs.
 ghost use mathlib.Core.Path.{_≡_};
 ghost use Prim.Native.Nat.{_≤_};
+ghost use Rattle.packet.specs.Settings.{settingsOf};
+ghost use Rattle.packet.specs.Packet.{inRange, maxPosition, maxWords, positionOf};
 ghost use Rattle.records.specs.Records.{padded};
-ghost use Rattle.cdp_running.specs.Tracker.{Good, settingsOf, startOf, resetOf, PacketPost, inRange, maxPosition, maxWords, positionOf};
+ghost use Rattle.cdp_running.specs.Tracker.{Good, startOf, resetOf, PacketPost};
 ghost use Rattle.cdp_running.specs.Word.{positionNow, rowsOf, Outcome, answerOf, WordPost};
 
 mod next;
 
+use packet::MAX_WORDS;
+use packet::Packet;
+use packet::REFUSED_FULL;
+use packet::REFUSED_NO_PACKET;
+use packet::REFUSED_PACKET;
+use packet::REFUSED_ROOM;
+use packet::Settings;
 use payload_fsm::Advanced;
 use payload_fsm::ItsPayloadFsmContinuous;
 use payload_fsm::ItsPayloadWord;
@@ -16,32 +25,12 @@ use records::Row;
 use records::Written;
 use stored::Frame;
 use stored::FrameTold;
+use stored::InternalTdh;
+use stored::StoredCdw;
 use stored::StoredIhw;
-use validators::InternalTdh;
-use validators::Packet;
-use validators::Settings;
-use validators::StoredCdw;
-use validators::StoredTdh;
+use stored::StoredTdh;
 use words::FromBuf;
 use words::Word;
-
-// Words that a packet takes.
-pub const MAX_WORDS: u16 = 4096;
-
-// The largest position of a packet, 2^62.
-pub const MAX_POSITION: u64 = 0x4000_0000_0000_0000;
-
-// The largest BC of a packet.
-pub const MAX_PACKET_BC: u64 = 4095;
-
-// Refusals of these calls, beside Word::REFUSED_SIZE.
-pub const REFUSED_NO_PACKET: u8 = 2;
-
-pub const REFUSED_FULL: u8 = 3;
-
-pub const REFUSED_ROOM: u8 = 4;
-
-pub const REFUSED_PACKET: u8 = 5;
 
 // All that is kept from one call to the next. What is absent is all zeros.
 pub struct Tracker {
@@ -81,54 +70,6 @@ pub struct PacketAnswer {
     pub refusal: u8,
 }
 
-// Whether each field of a packet is in its range, asked before any of them is made narrow.
-pub fn are_in_range(
-    position: u64,
-    orbit: u64,
-    trigger: u64,
-    bc: u64,
-    page: u64,
-    stop: u64,
-    format: u64,
-) -> bool
-    ensures { λ r. ⌜ r ≡ inRange (record { position = position; orbit = orbit; trigger = trigger; bc = bc; page = page; stop = stop; format = format }) ⌝ }
-{
-    (position <= MAX_POSITION)
-        & ((orbit < 0x1_0000_0000)
-            & ((trigger < 0x1_0000_0000)
-                & ((bc <= MAX_PACKET_BC)
-                    & ((page < 0x1_0000) & ((stop < 0x100) & ((format == 0) | (format == 2)))))))
-}
-
-// The same of a packet whose fields stand in their own types.
-pub fn in_range(packet: Packet) -> bool
-    ensures { λ r. ⌜ r ≡ inRange packet ⌝ }
-{
-    are_in_range(
-        packet.position,
-        packet.orbit as u64,
-        packet.trigger as u64,
-        packet.bc as u64,
-        packet.page as u64,
-        packet.stop as u64,
-        packet.format as u64,
-    )
-}
-
-// Where the word after so many stands.
-fn position(packet: Packet, taken: u16) -> u64
-    requires { ⌜ packet .position ≤ maxPosition ⌝ }
-    requires { ⌜ taken ≤ maxWords ⌝ }
-    ensures { λ r. ⌜ r ≡ positionOf packet taken ⌝ }
-{
-    let first = packet.position + 64;
-    if packet.format == 0 {
-        first + (taken as u64) * 16
-    } else {
-        first + (taken as u64) * 10
-    }
-}
-
 // The rows of a word, by what it was taken as.
 fn rows_of(t: Tracker, a: Advanced, word: Word) -> [Row; MOST]
     ensures { λ r. ⌜ r ≡ padded (rowsOf t a word) ⌝ }
@@ -166,23 +107,6 @@ fn rows_of(t: Tracker, a: Advanced, word: Word) -> [Row; MOST]
     }
 }
 
-// The settings as they are kept: a period that is absent is 0.
-fn fixed(settings: Settings) -> Settings
-    ensures { λ r. ⌜ r ≡ settingsOf settings ⌝ }
-{
-    Settings {
-        running: settings.running,
-        frames: settings.frames,
-        periodic: settings.periodic,
-        period: if settings.periodic {
-            settings.period
-        } else {
-            0
-        },
-        rule: settings.rule,
-    }
-}
-
 fn refused(t: Tracker, n: u8) -> WordAnswer
     ensures { λ r. ⌜ r ≡ answerOf t (Outcome.refused n) ⌝ }
 {
@@ -198,7 +122,7 @@ impl Tracker {
         ensures { λ r. ⌜ (r ≡ startOf settings) × Good r ⌝ }
     {
         Tracker {
-            settings: fixed(settings),
+            settings: settings.kept(),
             accepted: false,
             packet: Packet {
                 position: 0,
@@ -243,7 +167,7 @@ impl Tracker {
         requires { ⌜ Good self ⌝ }
         ensures { λ r. ⌜ r ≡ positionNow self ⌝ }
     {
-        position(self.packet, self.count)
+        packet::position(self.packet, self.count)
     }
 
     // A packet: where its words stand and what they are checked against. Refusal 5 leaves everything.
@@ -251,7 +175,7 @@ impl Tracker {
         requires { ⌜ Good self ⌝ }
         ensures { λ r. ⌜ PacketPost self packet r ⌝ }
     {
-        if !in_range(packet) {
+        if !packet::in_range(packet) {
             return PacketAnswer {
                 tracker: self,
                 refusal: REFUSED_PACKET,

@@ -8,8 +8,9 @@ use native.Mathlib.Omega.{arith}
 use borrow.Author.Tests.{lt-ltb, le-ltb, eq-eqb, ne-eqb}
 use lib.Dec.{ltb}
 use lib.ListN.{length}
+use Rattle.words.specs.LittleEndian.{numberAt}
 use Rattle.records.specs.Records.{over}
-use Rattle.bench_file.specs.File.{field, packets, words, packetAt, countAt, wordPlace, wordsBefore, checkOf}
+use Rattle.bench_file.specs.File.{packets, words, packetAt, countAt, wordPlace, wordsBefore, checkOf}
 use Rattle.bench_file.specs.Reader.{headerNumber, hasPacket, hasWord}
 use Rattle.bench_file.proofs.Checking.{one-more}
 use Rattle.bench_file.proofs.Reading.{sound, words-at-most, packet-here, word-here}
@@ -24,7 +25,7 @@ use Rattle.comparison.specs.Text.{lineOf}
 use Rattle.comparison.specs.Listing.{standing, nothing, counted, tell, packetsStep, wordsStep, countsStep, packetStep, fieldsStep, bytesStep, filledOf, Prints, Both, AtByte}
 
 -- A number of the header, where there is one.
-pub counted-there : (file : List ℕ) (at : ℕ) → 16 ≤ length file → headerNumber file at ≡ field file at 4
+pub counted-there : (file : List ℕ) (at : ℕ) → 16 ≤ length file → headerNumber file at ≡ numberAt file at 4
 unfolding headerNumber
 counted-there file at h = rw (le-ltb (length file) 16 h)
 
@@ -90,12 +91,12 @@ module _ (a b : List ℕ) (l : Listing) {d d′ : List ℕ} {r : Filled} where
 
   pub bytes-looked : {n m k x y : ℕ} → n ≡ countAt a (l .packet) → m ≡ countAt b (l .packet) → k ≡ min n m → l .part < 10 * k
       → l .first ≡ wordsBefore a (l .packet) → l .second ≡ wordsBefore b (l .packet)
-      → x ≡ field a (wordPlace a (l .first + l .part / 10) + l .part % 10) 1 → y ≡ field b (wordPlace b (l .second + l .part / 10) + l .part % 10) 1
+      → x ≡ numberAt a (wordPlace a (l .first + l .part / 10) + l .part % 10) 1 → y ≡ numberAt b (wordPlace b (l .second + l .part / 10) + l .part % 10) 1
       → Prints (tell (standing S.Bytes (l .packet) (l .part + 1) (l .first) (l .second) (l .count)) (place (W.Byte (l .packet) (l .part / 10) (l .part % 10)) x y)) d r d′
       → Prints (bytesStep a b l) d r d′
   bytes-looked p q e h f g u v s =
-      let x-is = u ∙ ap (λ (n : ℕ). field a (wordPlace a (n + l .part / 10) + l .part % 10) 1) f in
-      let y-is = v ∙ ap (λ (n : ℕ). field b (wordPlace b (n + l .part / 10) + l .part % 10) 1) g in
+      let x-is = u ∙ ap (λ (n : ℕ). numberAt a (wordPlace a (n + l .part / 10) + l .part % 10) 1) f in
+      let y-is = v ∙ ap (λ (n : ℕ). numberAt b (wordPlace b (n + l .part / 10) + l .part % 10) 1) g in
       rw (lt-ltb (l .part) (10 * commonWords a b (l .packet)) (omega (arith, p, q, e, h))) (rw (x-is, y-is) at s)
 
 module _ (a b : List ℕ) (l : Listing) (d : List ℕ) where

@@ -8,7 +8,7 @@ use native.Mathlib.Omega.{arith}
 use borrow.Author.Tests.{eqb-true, ltb-false, leb-false}
 use lib.Dec.{leb, ltb, eqb}
 use lib.ListN.{length}
-use Rattle.cdp_running.specs.Tracker.{inRange, maxWords}
+use Rattle.packet.specs.Packet.{inRange, maxWords}
 use Rattle.bench_file.specs.File.{packets, words, packetPlace, packetAt, countAt, wordsBefore, misfit, refusalBy, packetRefusal, firstRefusal, checkOf}
 use Rattle.bench_file.proofs.Checking.{fitting, one-more}
 use Rattle.bench_file.proofs.Reading.{more-words}

@@ -12,8 +12,9 @@ use lib.Dec.{eqb}
 use lib.ListN.{length, getD, take, drop, length-drop}
 use lib.Seq.{drop-drop, drop-length, length-take-le}
 use Rattle.words.specs.Word.{number}
+use Rattle.words.specs.LittleEndian.{numberAt}
 use Rattle.records.specs.Records.{Each}
-use Rattle.bench_file.specs.File.{field, packets, words, packetPlace, packetAt, countAt, wordPlace, wordsBefore, checkOf}
+use Rattle.bench_file.specs.File.{packets, words, packetPlace, packetAt, countAt, wordPlace, wordsBefore, checkOf}
 use Rattle.bench_file.proofs.Checking.{Fitting, one-more}
 use Rattle.bench_file.proofs.Reading.{fits, sound, words-at-most}
 use Rattle.comparison.specs.declared.Place.{Place}
@@ -107,8 +108,8 @@ module _ (a b : List ℕ) (pa : Bytes a) (pb : Bytes b) where
   From at = drop at a ≡ drop at b
 
   -- One number is the same, and all that follows it.
-  by-field : (at n : ℕ) → at + n ≤ length a → at + n ≤ length b → field a at n ≡ field b at n → From (at + n) → From at
-  unfolding field
+  by-field : (at n : ℕ) → at + n ≤ length a → at + n ≤ length b → numberAt a at n ≡ numberAt b at n → From (at + n) → From at
+  unfolding numberAt
   by-field at n la lb e rest =
       take-drop n (drop at a)
       ∙ (λ i. number-one (take n (drop at a)) (take n (drop at b)) (length-take-le n (drop at a) (long a la) ∙ sym (length-take-le n (drop at b) (long b lb))) (bytes-take n (drop at a) (bytes-drop at a pa)) (bytes-take n (drop at b) (bytes-drop at b pb)) e i ++ (drop-drop n at a ∙ rest ∙ sym (drop-drop n at b)) i)
@@ -118,7 +119,7 @@ module _ (a b : List ℕ) (pa : Bytes a) (pb : Bytes b) where
       long xs le = omega (arith, le, length-drop at xs)
 
   -- So many bytes.
-  by-bytes : (at n : ℕ) → at + n ≤ length a → at + n ≤ length b → ((j : ℕ) → j < n → field a (at + j) 1 ≡ field b (at + j) 1) → From (at + n) → From at
+  by-bytes : (at n : ℕ) → at + n ≤ length a → at + n ≤ length b → ((j : ℕ) → j < n → numberAt a (at + j) 1 ≡ numberAt b (at + j) 1) → From (at + n) → From at
   by-bytes at n la lb same end = from-0 (down n (λ j. From (at + j)) step end)
     where
       from-0 : From (at + 0) → From at
@@ -190,11 +191,11 @@ module _ (a b : List ℕ) (pa : Bytes a) (pb : Bytes b) (ca : checkOf a ≡ 0) (
       let e : wordPlace a (wordsBefore a p + countAt a p) ≡ wordPlace a (wordsBefore a p) + 10 * countAt a p = omega arith in
       by-bytes a b pa pb (wordPlace a (wordsBefore a p)) (10 * countAt a p) (omega (arith, whole)) (omega (arith, whole, same-length)) same (subst FromHere e rest)
     where
-      same : (j : ℕ) → j < 10 * countAt a p → field a (wordPlace a (wordsBefore a p) + j) 1 ≡ field b (wordPlace a (wordsBefore a p) + j) 1
+      same : (j : ℕ) → j < 10 * countAt a p → numberAt a (wordPlace a (wordsBefore a p) + j) 1 ≡ numberAt b (wordPlace a (wordsBefore a p) + j) 1
       same j lj =
           let e : wordPlace a (wordsBefore a p) + j ≡ wordPlace a (wordsBefore a p + j / 10) + j % 10 = omega arith in
           let e′ : wordPlace b (wordsBefore b p + j / 10) + j % 10 ≡ wordPlace a (wordsBefore a p) + j = omega (arith, same-packets, same-before p (omega (arith, lt))) in
-          ap (λ (n : ℕ). field a n 1) e ∙ same-byte p lt (j / 10) (omega (arith, lj)) (j % 10) (omega arith) ∙ ap (λ (n : ℕ). field b n 1) e′
+          ap (λ (n : ℕ). numberAt a n 1) e ∙ same-byte p lt (j / 10) (omega (arith, lj)) (j % 10) (omega arith) ∙ ap (λ (n : ℕ). numberAt b n 1) e′
 
   all-words : FromHere (packetPlace (packets a))
   unfolding wordsBefore
@@ -204,7 +205,7 @@ module _ (a b : List ℕ) (pa : Bytes a) (pb : Bytes b) (ca : checkOf a ≡ 0) (
       subst FromHere e′ (down (packets a) (λ p. FromHere (wordPlace a (wordsBefore a p))) by-words (subst FromHere e at-end))
 
   -- A number of a packet or of the header, and all that follows.
-  at-place : (at n next : ℕ) → at + n ≡ next → next ≤ packetPlace (packets a) → field a at n ≡ field b at n → FromHere next → FromHere at
+  at-place : (at n next : ℕ) → at + n ≡ next → next ≤ packetPlace (packets a) → numberAt a at n ≡ numberAt b at n → FromHere next → FromHere at
   at-place at n next s le e rest = by-field a b pa pb at n (omega (arith, s, le, whole)) (omega (arith, s, le, whole, same-length)) e (subst FromHere (sym s) rest)
 
   by-packet : (p : ℕ) → p < packets a → FromHere (packetPlace (suc p)) → FromHere (packetPlace p)

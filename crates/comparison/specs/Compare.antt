@@ -6,8 +6,9 @@ use mathlib.Core.List.{List, [], _∷_, _++_}
 use lib.Dec.{ltb, eqb}
 use lib.ListN.{length}
 use Rattle.words.specs.Word.{wordBytes}
-use Rattle.validators.specs.declared.Packet.{Packet}
-use Rattle.bench_file.specs.File.{field, packets, words, packetAt, countAt, wordPlace, wordsBefore, checkOf}
+use Rattle.words.specs.LittleEndian.{numberAt}
+use Rattle.packet.specs.declared.Packet.{Packet}
+use Rattle.bench_file.specs.File.{packets, words, packetAt, countAt, wordPlace, wordsBefore, checkOf}
 use Rattle.comparison.specs.declared.Where.{Where}
 use Rattle.comparison.specs.declared.Where.the-variants as W
 use Rattle.comparison.specs.declared.Place.{Place}
@@ -42,7 +43,7 @@ fieldOf p i =
 
 -- "packet number, word number, byte in the word, all from 0"
 abbrev pub byteAt : List ℕ → ℕ → ℕ → ℕ → ℕ
-byteAt file packet word byte = field file (wordPlace file (wordsBefore file packet + word) + byte) 1
+byteAt file packet word byte = numberAt file (wordPlace file (wordsBefore file packet + word) + byte) 1
 
 -- A place: where it is, the first file's number there and the second's.
 abbrev pub place : Where → ℕ → ℕ → Place

@@ -4,7 +4,8 @@ ghost use mathlib.Core.Bool.{true};
 ghost use Prim.Native.Nat.{_+_, _<_, _≤_, _^_, min};
 ghost use lib.ListN.{length};
 ghost use Rattle.words.specs.Word.{wordBytes};
-ghost use Rattle.bench_file.specs.File.{headerBytes, field, packetAt, countAt, wordPlace};
+ghost use Rattle.words.specs.LittleEndian.{numberAt};
+ghost use Rattle.bench_file.specs.File.{headerBytes, packetAt, countAt, wordPlace};
 ghost use Rattle.bench_file.specs.Reader.{hasPacket, hasWord};
 ghost use Rattle.comparison.specs.Compare.{refusalOf, common, fieldOf};
 ghost use Rattle.comparison.specs.Text.{mostPrinted};
@@ -13,8 +14,8 @@ ghost use Rattle.comparison.specs.Listing.{firstStage, isDone, startList
 mod text;
 
 use bench_file::Found;
-use bench_file::REFUSED_FILE;
-use validators::Packet;
+use packet::Packet;
+use packet::REFUSED_FILE;
 use words::Word;
 
 // The longest file that is compared.
@@ -184,7 +185,7 @@ fn field_at(file: &[u8], packet: usize, field: usize) -> u64
 fn byte_at(file: &[u8], word: usize, byte: usize) -> u8
     requires { ⌜ hasWord (now file) word ≡ true ⌝ }
     requires { ⌜ byte < wordBytes ⌝ }
-    ensures { λ r. ⌜ r ≡ field (now (file .entry)) (wordPlace (now (file .entry)) word + byte) 1 ⌝ }
+    ensures { λ r. ⌜ r ≡ numberAt (now (file .entry)) (wordPlace (now (file .entry)) word + byte) 1 ⌝ }
 {
     match bench_file::word_at(file, word) {
         Found::Word { at } => file[at + byte],

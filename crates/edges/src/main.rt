@@ -4,10 +4,10 @@ ghost use Rattle.cdp_running.specs.Tracker.{Good};
 use cdp_running::Told;
 use cdp_running::Tracker;
 use libc::STDOUT_FILENO;
+use packet::Packet;
+use packet::Rule;
+use packet::Settings;
 use report::Report;
-use validators::Packet;
-use validators::Rule;
-use validators::Settings;
 
 // How many files there are.
 const FILES: u8 = 64;

@@ -9,9 +9,9 @@ use words::Word;
 use words::cdw::Cdw;
 use words::ddw::Ddw0;
 use words::ihw::Ihw;
+use words::lanes::lane_answer;
 use words::tdh::Tdh;
 use words::tdt::Tdt;
-use words::util::lane_answer;
 
 // The bytes of the most words that are shown: a packet's 4,096.
 const MOST_BYTES: usize = 40960;
@@ -52,7 +52,7 @@ fn show_tdt(word: Word) {
     field(b"packet_done", tdt.packet_done() as u64);
     field(
         b"worst_lane_status",
-        words::util::ddw0_tdt_worst_lane_status(word) as u64,
+        words::lane_status::ddw0_tdt_worst_lane_status(word) as u64,
     );
 }
 
@@ -62,7 +62,7 @@ fn show_ddw0(word: Word) {
     field(b"index", ddw0.index() as u64);
     field(
         b"worst_lane_status",
-        words::util::ddw0_tdt_worst_lane_status(word) as u64,
+        words::lane_status::ddw0_tdt_worst_lane_status(word) as u64,
     );
 }
 

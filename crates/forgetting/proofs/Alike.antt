@@ -10,11 +10,12 @@ use lib.Dec.{eqb}
 use lib.ListN.{length, take, drop}
 use lib.Seq.{take-all}
 use Rattle.words.specs.Word.{wordOf}
+use Rattle.packet.specs.declared.Packet.{Packet}
+use Rattle.packet.specs.Packet.{inRange}
 use Rattle.records.specs.Records.{Record, room, Each}
-use Rattle.validators.specs.declared.Packet.{Packet}
 use Rattle.cdp_running.specs.declared.Tracker.{Tracker}
 use Rattle.cdp_running.specs.declared.PacketAnswer.{PacketAnswer}
-use Rattle.cdp_running.specs.Tracker.{acceptOf, resetOf, inRange, packetCall}
+use Rattle.cdp_running.specs.Tracker.{acceptOf, resetOf, packetCall}
 use Rattle.cdp_running.specs.Word as Word
 use Rattle.cdp_running.specs.Word.{Outcome, taken, refused, wordCall}
 use Rattle.cdp_running.proofs.Outcome.{taken-admitted}

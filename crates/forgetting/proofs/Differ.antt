@@ -11,11 +11,11 @@ use lib.Dec.{eqb}
 use lib.ListN.{replicate}
 use Rattle.words.specs.declared.Word.{Word}
 use Rattle.words.specs.Word.{number, wordOf, bits}
+use Rattle.packet.specs.declared.Rule.the-variants as R
+use Rattle.packet.specs.declared.Settings.{Settings}
 use Rattle.payload_fsm.specs.Kinds.{kindNumber}
 use Rattle.payload_fsm.specs.Settle.{DataClear, TdtDone, TdhClear, Marker, three-data, short-frame}
 use Rattle.records.specs.Records.{mostRecords, recordWidth, flat, given, Each}
-use Rattle.validators.specs.declared.Rule.the-variants as R
-use Rattle.validators.specs.declared.Settings.{Settings}
 use Rattle.cdp_running.specs.declared.Tracker.{Tracker}
 use Rattle.cdp_running.specs.declared.Told.the-variants.{Taken, Refused}
 use Rattle.cdp_running.specs.Tracker.{Good, startOf, packetCall}

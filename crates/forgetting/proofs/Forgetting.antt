@@ -3,13 +3,14 @@
 use mathlib.Core.Path.{_≡_, refl, sym, ap, _∙_}
 use mathlib.Core.Bool.{Bool, true, false, _||_, or-assoc, or-false, true≢false}
 use mathlib.Core.List.{List, [], _∷_, _++_}
+use Rattle.packet.specs.declared.Settings.{Settings}
+use Rattle.packet.specs.declared.Packet.{Packet}
+use Rattle.packet.specs.Packet.{inRange}
 use Rattle.payload_fsm.specs.declared.State.{State}
 use Rattle.payload_fsm.specs.declared.State.the-variants as S
 use Rattle.records.specs.Records.{Each}
-use Rattle.validators.specs.declared.Settings.{Settings}
-use Rattle.validators.specs.declared.Packet.{Packet}
 use Rattle.cdp_running.specs.declared.Tracker.{Tracker}
-use Rattle.cdp_running.specs.Tracker.{Good, startOf, acceptOf, packetCall, inRange}
+use Rattle.cdp_running.specs.Tracker.{Good, startOf, acceptOf, packetCall}
 use Rattle.cdp_running.proofs.Good.{good-start}
 use Rattle.cdp_running.proofs.Replace.{packet-sets}
 use Rattle.forgetting.specs.Calls.{Call, packet, word, payload, reset, after, run, answers, Took, tookIn, tookOf, took}

@@ -5,4 +5,3 @@ pub mod Alike
 pub mod Forgetting
 pub mod Arrays
 pub mod Differ
-pub mod Edges

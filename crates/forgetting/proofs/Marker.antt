@@ -10,7 +10,7 @@ use Rattle.payload_fsm.specs.declared.Advanced.{Advanced}
 use Rattle.payload_fsm.specs.Step.{taken}
 use Rattle.payload_fsm.specs.Settle.{TdtDone, stateAfter}
 use Rattle.payload_fsm.proofs.Settle.{AmongData, marker-closes, closes, after-append}
-use Rattle.stored.specs.Stored.{noFrame}
+use Rattle.stored.specs.Kept.{noFrame}
 use Rattle.stored.proofs.Replace.{frame-closed}
 use Rattle.cdp_running.specs.declared.Tracker.{Tracker}
 use Rattle.cdp_running.specs.Tracker.{Good}

@@ -10,14 +10,15 @@ use lib.ListN.{length, take, drop}
 use lib.Seq.{take-all}
 use Rattle.words.specs.declared.Word.{Word}
 use Rattle.words.specs.Word.{wordOf}
+use Rattle.packet.specs.declared.Packet.{Packet}
+use Rattle.packet.specs.Packet.{inRange, maxWords}
 use Rattle.payload_fsm.specs.declared.ItsPayloadWord.{ItsPayloadWord}
 use Rattle.payload_fsm.specs.Settle.{stateAfter}
 use Rattle.records.specs.Records.{Record, room, Each}
-use Rattle.validators.specs.declared.Packet.{Packet}
 use Rattle.stored.specs.declared.FrameTold.{FrameTold}
 use Rattle.cdp_running.specs.declared.Tracker.{Tracker}
 use Rattle.cdp_running.specs.declared.PacketAnswer.{PacketAnswer}
-use Rattle.cdp_running.specs.Tracker.{Good, acceptOf, resetOf, inRange, maxWords, packetCall}
+use Rattle.cdp_running.specs.Tracker.{Good, acceptOf, resetOf, packetCall}
 use Rattle.cdp_running.specs.Next.{nextOf}
 use Rattle.cdp_running.specs.Word as Word
 use Rattle.cdp_running.specs.Word.{Outcome, taken, refused, wordCall, takenAs}

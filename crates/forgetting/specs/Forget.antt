@@ -9,12 +9,12 @@ use lib.ListN.{length}
 use Rattle.words.specs.declared.Word.{Word}
 use Rattle.words.specs.Word.{wordBytes}
 use Rattle.words.specs.Tdh.{internalTrigger}
+use Rattle.packet.specs.Packet.{inRange}
 use Rattle.payload_fsm.specs.Kinds.{isIhw, isTdh, isData}
 use Rattle.payload_fsm.specs.Settle.{Marker}
 use Rattle.records.specs.Records.{mostRecords, room, Each}
-use Rattle.validators.specs.DataWords.{firstCdw}
+use Rattle.stored.specs.Stored.{firstCdw}
 use Rattle.cdp_running.specs.declared.Tracker.{Tracker}
-use Rattle.cdp_running.specs.Tracker.{inRange}
 use Rattle.forgetting.specs.Calls.{Call, packet, word, payload, reset, run, answers, kinds, Took, took, wordsIn}
 
 -- No reset between.

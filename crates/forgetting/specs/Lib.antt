@@ -1,5 +1,4 @@
--- Promise 3: calls one after the other (Calls), what it says of them (Forget), and what callers of the C boundary see (Seen); and 01's edges as a table (Edges).
+-- Promise 3: calls one after the other (Calls), what it says of them (Forget), and what callers of the C boundary see (Seen).
 pub mod Calls
 pub mod Forget
 pub mod Seen
-pub mod Edges

@@ -1,1 +1,1 @@
-// No code: promise 3 and 01's edges, stated in specs/ and proved in proofs/ over the definitions of the calls.
+// No code: promise 3, stated in specs/ and proved in proofs/ over the definitions of the calls.

@@ -11,15 +11,16 @@ use Rattle.words.specs.declared.Word.{Word}
 use Rattle.words.specs.Word.{wordOf}
 use Rattle.words.specs.Tdh.{internalTrigger}
 use Rattle.words.proofs.Bits.{bits-below}
+use Rattle.packet.specs.declared.Settings.{Settings}
+use Rattle.packet.specs.declared.Packet.{Packet}
+use Rattle.packet.specs.Packet.{inRange}
 use Rattle.payload_fsm.specs.Kinds.{isTdh}
 use Rattle.payload_fsm.proofs.Rows.{choice}
-use Rattle.validators.specs.declared.Settings.{Settings}
-use Rattle.validators.specs.declared.Packet.{Packet}
-use Rattle.validators.specs.declared.StoredTdh.{StoredTdh}
-use Rattle.validators.specs.declared.InternalTdh.{InternalTdh}
+use Rattle.stored.specs.declared.StoredTdh.{StoredTdh}
+use Rattle.stored.specs.declared.InternalTdh.{InternalTdh}
 use Rattle.cdp_running.specs.declared.Tracker.{Tracker}
 use Rattle.cdp_running.specs.declared.PacketAnswer.{PacketAnswer}
-use Rattle.cdp_running.specs.Tracker.{Good, startOf, resetOf, acceptOf, inRange, packetCall}
+use Rattle.cdp_running.specs.Tracker.{Good, startOf, resetOf, acceptOf, packetCall}
 use Rattle.cdp_running.specs.Word as Word
 use Rattle.cdp_running.specs.Word.{Outcome, taken, refused, takenAs, wordCall}
 use Rattle.cdp_running.specs.Next.{nextOf}

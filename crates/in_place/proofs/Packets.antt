@@ -7,8 +7,9 @@ use Prim.Native.Nat.{ℕ}
 use lib.ListN.{set}
 use borrow.Author.Tests.{not-true, not-false}
 use mathlib.Core.Bool.{not}
-use Rattle.validators.specs.declared.Packet.{Packet}
-use Rattle.cdp_running.specs.Tracker.{acceptOf, inRange, packetCall}
+use Rattle.packet.specs.declared.Packet.{Packet}
+use Rattle.packet.specs.Packet.{inRange}
+use Rattle.cdp_running.specs.Tracker.{acceptOf, packetCall}
 use Rattle.tracker_array.specs.Array.{encodeOf}
 use Rattle.tracker_array.specs.Read.{trackerIn}
 use Rattle.tracker_array.specs.Good.{GoodArray}

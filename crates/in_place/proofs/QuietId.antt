@@ -9,11 +9,13 @@ use lib.Dec.{ltb, eqb}
 use lib.ListN.{length}
 use Rattle.words.specs.declared.Word.{Word}
 use Rattle.words.specs.Word.{wordOf, idOf}
-use Rattle.data_ids.specs.DataIds.{isDataId, innerLane, outerLane, inputNumber, isInner, laneOf}
 use Rattle.words.specs.Lanes.{isLaneActive, laneAnswer, isActive}
 use Rattle.words.proofs.Bits.{bits-below}
 use Rattle.words.proofs.Tests.{both}
+use Rattle.data_ids.specs.DataIds.{isDataId, innerLane, outerLane, inputNumber, isInner, laneOf}
 use Rattle.data_ids.proofs.Table.{same-at-ids}
+use Rattle.packet.specs.declared.Settings.{Settings}
+use Rattle.packet.specs.Packet.{maxWords}
 use Rattle.payload_fsm.specs.declared.State.{State}
 use Rattle.payload_fsm.specs.declared.State.the-variants as S
 use Rattle.payload_fsm.specs.declared.ItsPayloadWord.the-variants as K
@@ -21,14 +23,12 @@ use Rattle.payload_fsm.specs.declared.Advanced.{Advanced}
 use Rattle.payload_fsm.specs.Step.{amongData, taken, advanceOf}
 use Rattle.payload_fsm.proofs.States.{in-data}
 use Rattle.records.specs.Records.{anyOn, silent}
-use Rattle.validators.specs.declared.Settings.{Settings}
-use Rattle.validators.specs.declared.StoredCdw.{StoredCdw}
-use Rattle.validators.specs.DataWords.{firstCdw, dataRows}
-use Rattle.validators.proofs.Lanes.{data-lane}
+use Rattle.stored.specs.declared.StoredCdw.{StoredCdw}
+use Rattle.stored.specs.Stored.{firstCdw, frameTold, lanesTold}
 use Rattle.stored.specs.declared.FrameTold.the-variants as F
-use Rattle.stored.specs.Stored.{frameTold, lanesTold}
+use Rattle.validators.specs.DataWords.{dataRows}
+use Rattle.validators.proofs.Lanes.{data-lane}
 use Rattle.cdp_running.specs.declared.Tracker.{Tracker}
-use Rattle.cdp_running.specs.Tracker.{maxWords}
 use Rattle.cdp_running.specs.Next.{nextOf}
 use Rattle.cdp_running.specs.Word.{Outcome, taken as taken-as, takenAs, positionNow, rowsOf, wordCall}
 use Rattle.payload.proofs.Run.{silent-call}

@@ -12,14 +12,15 @@ use borrow.Author.Tests.{eq-eqb, ne-eqb}
 use lib.Seq.{length-take-le, drop-drop}
 use Rattle.words.specs.Word.{idOf, wordOf}
 use Rattle.words.proofs.Load.{id-at}
+use Rattle.packet.specs.Packet.{maxWords}
 use Rattle.payload_fsm.specs.Step.{amongData}
 use Rattle.cdp_running.specs.declared.Tracker.{Tracker}
-use Rattle.cdp_running.specs.Tracker.{Good, maxWords}
+use Rattle.cdp_running.specs.Tracker.{Good}
 use Rattle.payload.specs.Payload.{Run, preceded, wordsFrom}
+use Rattle.payload.proofs.Run.{preceded-twice, silent-step}
 use Rattle.tracker_array.specs.Read.{place}
 use Rattle.in_place.specs.Quiet.{quietId, checkedLanes, idAt, QuietTo, Passed}
 use Rattle.in_place.proofs.QuietId.{quietNext, quiet-silent, quiet-next}
-use Rattle.payload.proofs.Run.{preceded-twice, silent-step}
 
 -- The invariant after quiet data words.
 pub good-quiet : (t : Tracker) (n : ℕ) → Good t → t .accepted ≡ true → t .count + n ≤ maxWords → Good (quietNext t n)

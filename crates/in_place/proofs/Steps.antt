@@ -13,6 +13,7 @@ use borrow.Author.Tests.{le-ltb, eq-eqb, ne-eqb}
 use Rattle.words.specs.declared.Word.{Word}
 use Rattle.words.specs.Word.{wordOf, idOf}
 use Rattle.words.proofs.Load.{id-byte}
+use Rattle.packet.specs.Packet.{maxWords}
 use Rattle.payload_fsm.specs.declared.ItsPayloadWord.{ItsPayloadWord}
 use Rattle.payload_fsm.specs.declared.ItsPayloadWord.the-variants as K
 use Rattle.payload_fsm.specs.declared.Advanced.{Advanced}
@@ -29,7 +30,7 @@ use Rattle.cdp_running.specs.declared.Tracker.{Tracker}
 use Rattle.cdp_running.specs.declared.Told.{Told}
 use Rattle.cdp_running.specs.declared.Told.the-variants as T
 use Rattle.cdp_running.specs.declared.WordAnswer.{WordAnswer}
-use Rattle.cdp_running.specs.Tracker.{Good, maxWords}
+use Rattle.cdp_running.specs.Tracker.{Good}
 use Rattle.cdp_running.specs.Next.{nextOf}
 use Rattle.cdp_running.specs.Word.{Outcome, taken, refused, takenAs, positionNow, rowsAs, rowsOf, recordsOf, takenAnswer, wordCall, answerOf, recordsIn, WordPost}
 use Rattle.cdp_running.proofs.Calls.{word-1, word-2, word-3, word-4, word-taken, of-word}

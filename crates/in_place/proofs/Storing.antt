@@ -11,18 +11,18 @@ use Rattle.words.specs.declared.Word.{Word}
 use Rattle.words.specs.Tdh.{triggerType, triggerBc, triggerOrbit, internalTrigger, continuation}
 use Rattle.words.specs.Cdw.{userFields}
 use Rattle.words.specs.Tdt.{packetDone}
+use Rattle.packet.specs.declared.Packet.{Packet}
 use Rattle.payload_fsm.specs.declared.Advanced.{Advanced}
 use Rattle.payload_fsm.specs.declared.State.{State}
 use Rattle.payload_fsm.specs.declared.ItsPayloadWord.{ItsPayloadWord}
 use Rattle.payload_fsm.specs.declared.ItsPayloadWord.the-variants as K
-use Rattle.validators.specs.declared.StoredTdh.{StoredTdh}
-use Rattle.validators.specs.declared.InternalTdh.{InternalTdh}
-use Rattle.validators.specs.declared.StoredCdw.{StoredCdw}
-use Rattle.validators.specs.DataWords.{firstCdw}
+use Rattle.stored.specs.declared.StoredTdh.{StoredTdh}
+use Rattle.stored.specs.declared.InternalTdh.{InternalTdh}
+use Rattle.stored.specs.declared.StoredCdw.{StoredCdw}
+use Rattle.stored.specs.Stored.{firstCdw}
 use Rattle.stored.specs.declared.Frame.{Frame}
-use Rattle.stored.specs.Stored.{noFrame}
+use Rattle.stored.specs.Kept.{noFrame}
 use Rattle.cdp_running.specs.declared.Tracker.{Tracker}
-use Rattle.validators.specs.declared.Packet.{Packet}
 use Rattle.cdp_running.specs.Tracker.{acceptOf, resetOf}
 use Rattle.cdp_running.specs.Next.{nextOf}
 use Rattle.cdp_running.specs.Word.{positionNow}

@@ -12,11 +12,12 @@ use borrow.Author.Tests.{eq-eqb, ne-eqb}
 use borrow.Rule.Slice.PartMut.{putMid, midOf}
 use Rattle.words.specs.declared.Word.{Word}
 use Rattle.words.specs.Word.{wordOf}
+use Rattle.packet.specs.Packet.{maxWords}
 use Rattle.records.specs.declared.Written.the-variants.{Records, NoRoom}
 use Rattle.records.proofs.Buffer.{mid-tail}
 use Rattle.cdp_running.specs.declared.Tracker.{Tracker}
 use Rattle.cdp_running.specs.declared.WordAnswer.{WordAnswer}
-use Rattle.cdp_running.specs.Tracker.{Good, maxWords}
+use Rattle.cdp_running.specs.Tracker.{Good}
 use Rattle.cdp_running.specs.Next.{nextOf}
 use Rattle.cdp_running.specs.Word.{takenAs, refused, takenAnswer, answerOf, WordPost}
 use Rattle.cdp_running.proofs.Calls.{word-3}

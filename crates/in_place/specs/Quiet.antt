@@ -7,10 +7,10 @@ use mathlib.Core.List.{List}
 use lib.Dec.{leb, ltb, eqb}
 use lib.ListN.{length, getD, set}
 use Rattle.words.specs.Word.{wordBytes}
-use Rattle.data_ids.specs.DataIds.{isDataId, laneOf}
 use Rattle.words.specs.Lanes.{isLaneActive}
+use Rattle.data_ids.specs.DataIds.{isDataId, laneOf}
+use Rattle.packet.specs.Packet.{maxWords}
 use Rattle.payload_fsm.specs.Step.{amongData}
-use Rattle.cdp_running.specs.Tracker.{maxWords}
 use Rattle.tracker_array.specs.Read.{place, isOn, trackerIn}
 
 abbrev pub quietId : ℕ → ℕ → Bool

@@ -12,7 +12,7 @@ use Rattle.words.specs.Cdw.{userFields}
 use Rattle.words.specs.Tdt.{packetDone}
 use Rattle.payload_fsm.specs.declared.ItsPayloadWord.{ItsPayloadWord}
 use Rattle.payload_fsm.specs.declared.ItsPayloadWord.the-variants as K
-use Rattle.validators.specs.DataWords.{firstCdw}
+use Rattle.stored.specs.Stored.{firstCdw}
 use Rattle.tracker_array.specs.Read.{place, isOn}
 
 -- Numbers stored from a place on, if so.

@@ -5,11 +5,11 @@ ghost use mathlib.Core.Bool.{true, false};
 ghost use Prim.Native.Nat.{_/_, _<_};
 ghost use lib.ListN.{length};
 ghost use Rattle.words.specs.Word.{wordBytes};
-ghost use Rattle.records.specs.Records.{recordWidth};
+ghost use Rattle.packet.specs.Packet.{maxWords};
 ghost use Rattle.payload_fsm.specs.declared.ItsPayloadWord.the-variants as K;
+ghost use Rattle.records.specs.Records.{recordWidth};
 ghost use Rattle.stored.specs.declared.FrameTold.the-variants as F;
 ghost use Rattle.cdp_running.specs.declared.Told.the-variants as T;
-ghost use Rattle.cdp_running.specs.Tracker.{maxWords};
 ghost use Rattle.tracker_array.specs.Read.{place, isOn};
 ghost use Rattle.tracker_array.specs.Good.{GoodArray};
 ghost use Rattle.in_place.specs.Calls.{PacketInPlace, ResetInPlace, WordInPlace, PayloadInPlace};
@@ -19,8 +19,8 @@ mod rows;
 mod step;
 mod stores;
 
-use cdp_running::MAX_WORDS;
 use cdp_running::Told;
+use packet::MAX_WORDS;
 use payload_fsm::ItsPayloadWord;
 use payload_fsm::State;
 use records::Written;
@@ -52,8 +52,8 @@ pub fn packet(
     requires { ⌜ GoodArray (now a) ⌝ }
     ensures { λ r. ⌜ PacketInPlace (now (a .entry)) (record { position = position; orbit = orbit; trigger = trigger; bc = bc; page = page; stop = stop; format = format }) r (now (a .exit)) ⌝ }
 {
-    if !cdp_running::are_in_range(position, orbit, trigger, bc, page, stop, format) {
-        return cdp_running::REFUSED_PACKET;
+    if !packet::are_in_range(position, orbit, trigger, bc, page, stop, format) {
+        return packet::REFUSED_PACKET;
     }
     stores::packet(a, position, orbit, trigger, bc, page, stop, format);
     0
@@ -93,7 +93,7 @@ fn taken_word(a: &mut [u64], bytes: &[u8], out: &mut [u64]) -> Told
     let here = step::position(a);
     let frame = next::frame_told(a[place::FRAMES] == 1, kind, word, here, read::frame(a));
     let Written::Records(n) = step::step(a, bytes, 0, out) else {
-        return Told::Refused(cdp_running::REFUSED_ROOM);
+        return Told::Refused(packet::REFUSED_ROOM);
     };
     Told::Taken {
         kind: kind,
@@ -113,10 +113,10 @@ pub fn word(a: &mut [u64], bytes: &[u8], out: &mut [u64]) -> Told
         return Told::Refused(Word::REFUSED_SIZE);
     }
     if a[place::ACCEPTED] != 1 {
-        return Told::Refused(cdp_running::REFUSED_NO_PACKET);
+        return Told::Refused(packet::REFUSED_NO_PACKET);
     }
     if a[place::COUNT] >= (MAX_WORDS as u64) {
-        return Told::Refused(cdp_running::REFUSED_FULL);
+        return Told::Refused(packet::REFUSED_FULL);
     }
     if quiet::pass(a, bytes, 0) != 0 {
         return quiet_told();
@@ -144,7 +144,7 @@ pub fn payload(a: &mut [u64], bytes: &[u8], out: &mut [u64]) -> PayloadTold
         return told(0, 0, Word::REFUSED_SIZE);
     }
     if a[place::ACCEPTED] != 1 {
-        return told(0, 0, cdp_running::REFUSED_NO_PACKET);
+        return told(0, 0, packet::REFUSED_NO_PACKET);
     }
     let mut at: usize = 0;
     let mut used: usize = 0;
@@ -152,10 +152,10 @@ pub fn payload(a: &mut [u64], bytes: &[u8], out: &mut [u64]) -> PayloadTold
         at = quiet::pass(a, bytes, at);
         if at < bytes.len() {
             if a[place::COUNT] >= (MAX_WORDS as u64) {
-                return told(at, used, cdp_running::REFUSED_FULL);
+                return told(at, used, packet::REFUSED_FULL);
             }
             let Written::Records(n) = step::step(a, bytes, at, &mut out[used..]) else {
-                return told(at, used, cdp_running::REFUSED_ROOM);
+                return told(at, used, packet::REFUSED_ROOM);
             };
             used = used + records::WIDTH * (n as usize);
             at = at + Word::SIZE;

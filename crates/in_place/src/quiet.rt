@@ -9,7 +9,7 @@ ghost use Rattle.payload_fsm.specs.Step.{amongData};
 ghost use Rattle.tracker_array.specs.Read.{stateOf};
 ghost use Rattle.tracker_array.specs.Good.{GoodArray};
 ghost use Rattle.in_place.specs.Quiet.{checkedLanes, hasId, QuietIds, HaveIds, QuietTo, Passed};
-use cdp_running::MAX_WORDS;
+use packet::MAX_WORDS;
 use tracker_array::place;
 use words::Word;
 

@@ -3,7 +3,7 @@ ghost use mathlib.Core.Path.{_≡_};
 ghost use Prim.Native.Nat.{_+_, _≤_, _<_};
 ghost use lib.ListN.{length, take, drop};
 ghost use Rattle.words.specs.Word.{wordBytes, wordOf};
-ghost use Rattle.cdp_running.specs.Tracker.{maxWords};
+ghost use Rattle.packet.specs.Packet.{maxWords};
 ghost use Rattle.cdp_running.specs.Word.{takenAs, positionNow};
 ghost use Rattle.tracker_array.specs.Read.{place, trackerIn};
 ghost use Rattle.tracker_array.specs.Good.{GoodArray};

@@ -5,7 +5,8 @@ ghost use mathlib.Core.List.{[], _∷_};
 ghost use lib.ListN.{length};
 ghost use lib.Seq.{sets};
 ghost use Rattle.words.specs.Tdh.{triggerType, triggerBc, triggerOrbit};
-ghost use Rattle.cdp_running.specs.Tracker.{maxWords, acceptOf};
+ghost use Rattle.packet.specs.Packet.{maxWords};
+ghost use Rattle.cdp_running.specs.Tracker.{acceptOf};
 ghost use Rattle.cdp_running.specs.Next.{nextOf};
 ghost use Rattle.cdp_running.specs.Word.{positionNow};
 ghost use Rattle.tracker_array.specs.Array.{size, stateNumber, encodeOf};
@@ -88,7 +89,7 @@ fn data(a: &mut [u64], word: Word)
     ensures { λ _. ⌜ now (a .exit) ≡ dataStores word (now (a .entry)) ⌝ }
 {
     let cdw = Cdw { word: word };
-    let first = validators::data_words::is_first_cdw(a[place::SEEN] == 1, word);
+    let first = stored::next::is_first_cdw(a[place::SEEN] == 1, word);
     put_if(first, place::CDW, 1, cdw.calibration_user_fields(), a);
     a[place::SEEN] = 1;
 }

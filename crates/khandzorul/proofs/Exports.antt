@@ -7,8 +7,8 @@ use mathlib.Core.List.{List}
 use lib.ListN.{length}
 use borrow.Author.Tests.{eqb-true, eq-eqb, ne-eqb, not-true, not-false}
 use Rattle.words.proofs.Tests.{tests}
-use Rattle.validators.specs.declared.Rule.{Rule}
-use Rattle.validators.specs.declared.Packet.{Packet}
+use Rattle.packet.specs.declared.Rule.{Rule}
+use Rattle.packet.specs.declared.Packet.{Packet}
 use Rattle.cdp_running.specs.declared.Tracker.{Tracker}
 use Rattle.cdp_running.specs.declared.Told.{Told}
 use Rattle.cdp_running.specs.declared.Told.the-variants.{Refused}

@@ -8,11 +8,12 @@ use native.Mathlib.Omega.{arith}
 use lib.Dec.{eqb}
 use lib.ListN.{length, take}
 use borrow.Author.Tests.{eq-eqb}
+use Rattle.packet.specs.declared.Packet.{Packet}
+use Rattle.packet.specs.Packet.{inRange}
 use Rattle.records.specs.Records.{Record, flat, room, over}
-use Rattle.validators.specs.declared.Packet.{Packet}
 use Rattle.cdp_running.specs.declared.Tracker.{Tracker}
 use Rattle.cdp_running.specs.declared.Told.the-variants.{Refused}
-use Rattle.cdp_running.specs.Tracker.{startOf, resetOf, inRange, packetCall}
+use Rattle.cdp_running.specs.Tracker.{startOf, resetOf, packetCall}
 use Rattle.cdp_running.specs.Word as Word
 use Rattle.cdp_running.specs.Word.{Outcome, taken, refused, wordCall}
 use Rattle.payload.specs.Payload.{Run, stop, wordsFrom, payloadCall}
@@ -20,12 +21,12 @@ use Rattle.payload.proofs.Run.{step-taken, step-refused}
 use Rattle.tracker_array.specs.Array.{encodeOf}
 use Rattle.tracker_array.specs.Read.{Decoded, Is, Not, decodeOf}
 use Rattle.tracker_array.proofs.Laws.{decode-encode, decoded-good, decoded-encodes}
+use Rattle.in_place.proofs.Kept.{Kept, kept-start, kept-reset, kept-packet, kept-word, kept-payload}
 use Rattle.khandzorul.specs.declared.WordNumbers.{WordNumbers}
 use Rattle.khandzorul.specs.declared.PayloadNumbers.{PayloadNumbers}
 use Rattle.khandzorul.specs.Answer.{noTracker, noSettings, toldNumbers}
 use Rattle.khandzorul.specs.Calls.{Asked, areSettings, settingsFrom, StartOn, PacketOn, ResetOn, WordOn, PayloadOn}
 use Rattle.khandzorul.proofs.Exports.{period-fits}
-use Rattle.in_place.proofs.Kept.{Kept, kept-start, kept-reset, kept-packet, kept-word, kept-payload}
 
 -- The numbers of a tracker are that tracker.
 again : {t : Tracker} {after : List ℕ} → after ≡ encodeOf t → Kept t → decodeOf after ≡ Is t

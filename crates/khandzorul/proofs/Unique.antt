@@ -4,7 +4,7 @@ use Prim.Native.Nat.{ℕ}
 use mathlib.Core.Path.{_≡_}
 use mathlib.Core.List.{List}
 use Rattle.words.proofs.Unique.{unique}
-use Rattle.validators.specs.declared.Packet.{Packet}
+use Rattle.packet.specs.declared.Packet.{Packet}
 use Rattle.bench_file.specs.File.{checkOf}
 use Rattle.khandzorul.specs.declared.WordNumbers.{WordNumbers}
 use Rattle.khandzorul.specs.declared.PayloadNumbers.{PayloadNumbers}

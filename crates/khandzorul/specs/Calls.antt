@@ -7,9 +7,9 @@ use mathlib.Core.Bool.{Bool, cond, not, _&&_, _||_}
 use mathlib.Core.List.{List}
 use lib.Dec.{leb, eqb}
 use lib.ListN.{length}
+use Rattle.packet.specs.declared.Settings.{Settings}
+use Rattle.packet.specs.declared.Packet.{Packet}
 use Rattle.records.specs.Records.{flat, room, over}
-use Rattle.validators.specs.declared.Settings.{Settings}
-use Rattle.validators.specs.declared.Packet.{Packet}
 use Rattle.cdp_running.specs.declared.Tracker.{Tracker}
 use Rattle.cdp_running.specs.declared.Told.the-variants.{Refused}
 use Rattle.cdp_running.specs.Tracker.{startOf, resetOf, packetCall}

@@ -12,8 +12,8 @@ pub mod status;
 pub mod write;
 
 use cdp_running::Tracker;
+use packet::Settings;
 use tracker_array::rules;
-use validators::Settings;
 
 // What was handed in is no tracker.
 pub const NO_TRACKER: u64 = 100;

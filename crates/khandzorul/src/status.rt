@@ -1,6 +1,6 @@
 // The readers of lane status that cross to C, for a handheld that uses them alone.
 ghost use mathlib.Core.Path.{_≡_};
-ghost use Rattle.words.specs.Lanes.{laneStatus, worstLane};
+ghost use Rattle.words.specs.LaneStatus.{laneStatus, worstLane};
 ghost use Rattle.khandzorul.specs.Status.{statusOf};
 use words::FromBuf;
 use words::Word;
@@ -17,7 +17,7 @@ fn lane_status(word: Word, lane: u64) -> u64
     ensures { λ r. ⌜ r ≡ laneStatus lane word ⌝ }
 {
     if lane < 0x100 {
-        words::util::ddw0_tdt_lane_status(word, lane as u8) as u64
+        words::lane_status::ddw0_tdt_lane_status(word, lane as u8) as u64
     } else {
         0
     }
@@ -31,7 +31,7 @@ pub extern "C" fn khz_worst_lane(word: &[u8]) -> StatusNumbers
     match Word::from_buf(word) {
         FromBuf::Is(word) => StatusNumbers {
             refusal: 0,
-            status: words::util::ddw0_tdt_worst_lane_status(word) as u64,
+            status: words::lane_status::ddw0_tdt_worst_lane_status(word) as u64,
         },
         FromBuf::Refused(n) => StatusNumbers {
             refusal: n as u64,

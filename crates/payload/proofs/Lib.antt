@@ -2,4 +2,3 @@ pub mod Run
 pub mod Loop
 pub mod Words
 pub mod Unique
-pub mod WholeCase

@@ -8,8 +8,8 @@ use mathlib.Core.List.{List, [], _∷_, _++_}
 use lib.Dec.{eqb}
 use lib.ListN.{length, take, drop}
 use Rattle.words.specs.Word.{wordBytes}
-use Rattle.records.specs.Records.{Record, flat, room, over}
 use Rattle.payload_fsm.specs.declared.ItsPayloadWord.{ItsPayloadWord}
+use Rattle.records.specs.Records.{Record, flat, room, over}
 use Rattle.stored.specs.declared.FrameTold.{FrameTold}
 use Rattle.cdp_running.specs.declared.Tracker.{Tracker}
 use Rattle.cdp_running.specs.Tracker.{Good}

@@ -7,10 +7,10 @@ ghost use Rattle.words.specs.Word.{wordBytes};
 ghost use Rattle.cdp_running.specs.Tracker.{Good};
 ghost use Rattle.cdp_running.specs.Word.{WordPost};
 ghost use Rattle.payload.specs.Payload.{PayloadPost, answerOf, stop};
-use cdp_running::REFUSED_NO_PACKET;
 use cdp_running::Told;
 use cdp_running::Tracker;
 use cdp_running::WordAnswer;
+use packet::REFUSED_NO_PACKET;
 use words::Word;
 
 // Refusal 0: all words were taken. Words taken and records written count up to a refusal.

@@ -8,10 +8,11 @@ use native.Mathlib.Nat.{add-zero, add-assoc}
 use native.Mathlib.Omega.{arith}
 use lib.ListN.{length, length-append}
 use Rattle.words.specs.Word.{wordOf}
+use Rattle.packet.specs.declared.Packet.{Packet}
+use Rattle.packet.specs.Packet.{inRange}
 use Rattle.records.specs.Records.{Record}
-use Rattle.validators.specs.declared.Packet.{Packet}
 use Rattle.cdp_running.specs.declared.Tracker.{Tracker}
-use Rattle.cdp_running.specs.Tracker.{Good, inRange, packetCall}
+use Rattle.cdp_running.specs.Tracker.{Good, packetCall}
 use Rattle.cdp_running.specs.Word.{recordsOf, Outcome, taken, refused, takenOf, wordCall, answerOf, recordsIn}
 use Rattle.cdp_running.proofs.Good.{good-accept, good-next}
 use Rattle.cdp_running.proofs.Outcome.{taken-admitted, taken-is, next-is}

@@ -10,8 +10,8 @@ use lib.ListN.{length, getD, drop}
 use lib.Seq.{getD-drop}
 use Rattle.records.specs.Records.{Record, flat}
 use Rattle.ascii.specs.Text.{Puts}
-use Rattle.report.specs.Text.{line, lines, firstRecord, recordsAt}
 use Rattle.ascii.proofs.Putting.{behind}
+use Rattle.report.specs.Text.{line, lines, firstRecord, recordsAt}
 
 pub lines-append : (xs ys : List Record) → lines (xs ++ ys) ≡ lines xs ++ lines ys
 unfolding lines

@@ -10,9 +10,10 @@ use denote.Ref.{RefT, now}
 use lib.ListN.{length, drop, length-drop}
 use lib.Seq.{length-take-le}
 use Rattle.words.specs.Word.{wordOf}
-use Rattle.validators.specs.declared.Packet.{Packet}
+use Rattle.packet.specs.declared.Packet.{Packet}
+use Rattle.packet.specs.Packet.{inRange}
 use Rattle.cdp_running.specs.declared.Tracker.{Tracker}
-use Rattle.cdp_running.specs.Tracker.{startOf, inRange, packetCall, acceptOf}
+use Rattle.cdp_running.specs.Tracker.{startOf, packetCall, acceptOf}
 use Rattle.cdp_running.specs.Next.{nextOf as afterWord}
 use Rattle.cdp_running.specs.Word.{takenAs, Outcome, takenOf, wordCall, answerOf}
 use Rattle.cdp_running.proofs.Outcome.{admitted-taken}

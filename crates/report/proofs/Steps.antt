@@ -22,11 +22,11 @@ use Rattle.bench_file.specs.File.{checkOf, bytesAt}
 use Rattle.bench_file.specs.declared.Found.{Found}
 use Rattle.bench_file.specs.Reader.{pastWord, nextOf}
 use Rattle.bench_file.proofs.Reading.{at-start, sound, reached, word-given}
+use Rattle.ascii.specs.Text.{Puts}
 use Rattle.report.specs.declared.Stage.{Stage}
 use Rattle.report.specs.declared.Stage.the-variants as S
 use Rattle.report.specs.declared.Report.{Report}
 use Rattle.report.specs.declared.Filled.{Filled}
-use Rattle.ascii.specs.Text.{Puts}
 use Rattle.report.specs.Text.{lines, recordsAt}
 use Rattle.report.specs.File.{settings}
 use Rattle.report.specs.Report.{firstStage, startReport, reading, recordsTold, itemStep, stageStep, stepOf, Prints, GoodReading, GoodWord, GoodReport}

@@ -4,10 +4,11 @@ use Prim.Native.Nat.{ℕ}
 use mathlib.Core.Path.{_≡_, refl}
 use mathlib.Core.List.{List, [], _∷_}
 use Rattle.words.specs.Word.{number, wordOf, bits}
+use Rattle.words.specs.LittleEndian.{numberAt}
 use Rattle.records.specs.Records.{given}
 use Rattle.cdp_running.specs.Tracker.{packetCall}
 use Rattle.cdp_running.specs.Word.{recordsOf, takenOf, wordCall}
-use Rattle.bench_file.specs.File.{field, wordsBefore, misfit, firstRefusal, checkOf}
+use Rattle.bench_file.specs.File.{wordsBefore, misfit, firstRefusal, checkOf}
 use Rattle.bench_file.specs.Items.{wordItems, packetItems, items}
 use Rattle.ascii.specs.Text.{ascii, decimalIn, decimal}
 use Rattle.report.specs.Text.{line, lines, heading, recordsLine, refusedLine}
@@ -25,5 +26,5 @@ wholeCase =
     ∷ 0x10 ∷ 0x30 ∷ 0xC6 ∷ 0x00 ∷ 0x07 ∷ 0x00 ∷ 0x00 ∷ 0x00 ∷ 0x00 ∷ 0xE8 ∷ []
 
 pub whole-text : text wholeCase ≡ ascii "pos code first second\n84 1072 1 1\n104 440 3564 198\n104 1045 3564 198\nrecords 3\n"
-unfolding wholeCase number wordOf bits given packetCall recordsOf takenOf wordCall field wordsBefore misfit firstRefusal checkOf wordItems packetItems items decimalIn decimal line lines heading recordsLine refusedLine recordsFrom fileRecords text
+unfolding wholeCase number wordOf bits given packetCall recordsOf takenOf wordCall numberAt wordsBefore misfit firstRefusal checkOf wordItems packetItems items decimalIn decimal line lines heading recordsLine refusedLine recordsFrom fileRecords text
 whole-text = refl

@@ -7,9 +7,9 @@ use mathlib.Core.List.{List, [], _∷_, _++_}
 use lib.Dec.{eqb}
 use lib.ListN.{length}
 use Rattle.words.specs.Word.{wordOf}
+use Rattle.packet.specs.declared.Rule.the-variants as R
+use Rattle.packet.specs.declared.Settings.{Settings}
 use Rattle.records.specs.Records.{Record, mostRecords}
-use Rattle.validators.specs.declared.Rule.the-variants as R
-use Rattle.validators.specs.declared.Settings.{Settings}
 use Rattle.cdp_running.specs.declared.Tracker.{Tracker}
 use Rattle.cdp_running.specs.Tracker.{startOf, packetCall}
 use Rattle.cdp_running.specs.Word.{takenOf, wordCall, answerOf, recordsIn}

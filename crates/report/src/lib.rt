@@ -3,19 +3,19 @@ ghost use mathlib.Core.Path.{_≡_};
 ghost use Prim.Native.Nat.{_≤_};
 ghost use lib.ListN.{length};
 ghost use Rattle.cdp_running.specs.Tracker.{Good};
-ghost use Rattle.report.specs.Text.{mostPrinted};
-ghost use Rattle.report.specs.Report.{startReport, firstStage, atStage, itemStep, stepOf, isDone, recordsTold, filledOf, GoodWord, GoodReading, GoodReport, Prints, FillPost};
 ghost use Rattle.bench_file.specs.Reader.{nextOf};
 ghost use Rattle.bench_file.specs.declared.Found.the-variants as F;
+ghost use Rattle.report.specs.Text.{mostPrinted};
+ghost use Rattle.report.specs.Report.{startReport, firstStage, atStage, itemStep, stepOf, isDone, recordsTold, filledOf, GoodWord, GoodReading, GoodReport, Prints, FillPost};
 
 mod text;
 
 use bench_file::Found;
 use cdp_running::Told;
 use cdp_running::Tracker;
-use validators::Packet;
-use validators::Rule;
-use validators::Settings;
+use packet::Packet;
+use packet::Rule;
+use packet::Settings;
 use words::Word;
 
 // The most bytes that a step prints: the lines of a word's records, of numbers with 20 digits.

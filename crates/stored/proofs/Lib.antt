@@ -1,1 +1,2 @@
 pub mod Replace
+pub mod Good

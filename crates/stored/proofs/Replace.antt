@@ -10,13 +10,13 @@ use Rattle.words.specs.Tdt.{packetDone}
 use Rattle.payload_fsm.specs.declared.ItsPayloadWord.{ItsPayloadWord}
 use Rattle.payload_fsm.specs.declared.ItsPayloadWord.the-variants as K
 use Rattle.payload_fsm.specs.Kinds.{isIhw, isTdh, isData}
-use Rattle.validators.specs.declared.StoredTdh.{StoredTdh}
-use Rattle.validators.specs.declared.InternalTdh.{InternalTdh}
-use Rattle.validators.specs.declared.StoredCdw.{StoredCdw}
-use Rattle.validators.specs.DataWords.{firstCdw}
+use Rattle.stored.specs.declared.StoredTdh.{StoredTdh}
+use Rattle.stored.specs.declared.InternalTdh.{InternalTdh}
+use Rattle.stored.specs.declared.StoredCdw.{StoredCdw}
+use Rattle.stored.specs.Stored.{firstCdw, nextIhw, nextTdh, nextInternal, nextCdw, nextFrame}
 use Rattle.stored.specs.declared.StoredIhw.{StoredIhw}
 use Rattle.stored.specs.declared.Frame.{Frame}
-use Rattle.stored.specs.Stored.{nextIhw, nextTdh, nextInternal, nextCdw, noFrame, nextFrame}
+use Rattle.stored.specs.Kept.{noFrame}
 
 -- Two that were the same once something was met, and are set by it alike.
 replaced : {A : Type 0} (met now : Bool) (set old old′ : A) → (met ≡ true → old ≡ old′) → (met || now) ≡ true → cond now set old ≡ cond now set old′

@@ -1,2 +1,3 @@
--- What is kept of a word, part by part, and what is told of the frame and the lanes (Stored).
+-- What is kept of a word, part by part: absent and good (Kept), after a word, and what is told of the frame and the lanes (Stored).
+pub mod Kept
 pub mod Stored

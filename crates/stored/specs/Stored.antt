@@ -7,17 +7,18 @@ use Rattle.words.specs.declared.Word.{Word}
 use Rattle.words.specs.Tdh.{triggerType, internalTrigger, continuation, triggerBc, triggerOrbit}
 use Rattle.words.specs.Tdt.{packetDone}
 use Rattle.words.specs.Ihw.{activeLanes, lanesOn}
-use Rattle.words.specs.Cdw.{userFields}
+use Rattle.words.specs.Word.{idOf}
+use Rattle.words.specs.Cdw.{cdwId, userFields}
 use Rattle.payload_fsm.specs.declared.ItsPayloadWord.{ItsPayloadWord}
 use Rattle.payload_fsm.specs.Kinds.{isIhw, isTdh, isData, isTdt}
-use Rattle.validators.specs.declared.StoredTdh.{StoredTdh}
-use Rattle.validators.specs.declared.InternalTdh.{InternalTdh}
-use Rattle.validators.specs.declared.StoredCdw.{StoredCdw}
-use Rattle.validators.specs.DataWords.{firstCdw}
 use Rattle.stored.specs.declared.StoredIhw.{StoredIhw}
+use Rattle.stored.specs.declared.StoredTdh.{StoredTdh}
+use Rattle.stored.specs.declared.InternalTdh.{InternalTdh}
+use Rattle.stored.specs.declared.StoredCdw.{StoredCdw}
 use Rattle.stored.specs.declared.Frame.{Frame}
 use Rattle.stored.specs.declared.FrameTold.{FrameTold}
 use Rattle.stored.specs.declared.FrameTold.the-variants as F
+use Rattle.stored.specs.Kept.{noFrame}
 
 -- "IHW, continuation too: .. Stored after that, whatever its id; the active lanes are those of the one last stored."
 abbrev pub nextIhw : ItsPayloadWord → Word → StoredIhw → StoredIhw
@@ -33,7 +34,11 @@ abbrev pub nextInternal : ItsPayloadWord → Word → InternalTdh → InternalTd
 nextInternal kind w old =
     cond (isTdh kind && eqb (internalTrigger w) 1) (record { stored = true; bc = triggerBc w; orbit = triggerOrbit w }) old
 
--- "with no data seen yet in this packet and id 0xF8: .. then it is stored"
+-- "with no data seen yet in this packet and id 0xF8"
+abbrev pub firstCdw : Bool → Word → Bool
+firstCdw seen w = not seen && eqb (idOf w) cdwId
+
+-- ".. then it is stored"
 abbrev pub nextCdw : ItsPayloadWord → Bool → Word → StoredCdw → StoredCdw
 nextCdw kind seen w old = cond (isData kind && firstCdw seen w) (record { stored = true; user = userFields w }) old
 
@@ -48,10 +53,6 @@ opens frames kind w f = isTdh kind && (frames && (not (f .live) && eqb (continua
 -- "Frames on and packet done: an open frame closes here"
 abbrev pub closes : Bool → ItsPayloadWord → Word → Bool
 closes frames kind w = isTdt kind && (frames && packetDone w)
-
--- "a presence flag beside fields": no frame is open, all zeros.
-abbrev pub noFrame : Frame
-noFrame = record { live = false; start = 0 }
 
 abbrev pub nextFrame : Bool → ItsPayloadWord → Word → ℕ → Frame → Frame
 nextFrame frames kind w position f =

@@ -7,6 +7,27 @@ pub struct StoredIhw {
     pub lanes: u32,
 }
 
+// Of the TDH stored last, what is read again.
+pub struct StoredTdh {
+    pub stored: bool,
+    pub trigger: u16,
+    pub bc: u16,
+    pub orbit: u32,
+}
+
+// Of the last TDH with internal trigger, what is read again.
+pub struct InternalTdh {
+    pub stored: bool,
+    pub bc: u16,
+    pub orbit: u32,
+}
+
+// Of the CDW stored last, what is read again.
+pub struct StoredCdw {
+    pub stored: bool,
+    pub user: u64,
+}
+
 // Whether a frame is open, and where it started.
 pub struct Frame {
     pub live: bool,

@@ -1,13 +1,13 @@
 // What is kept after a word, each part by itself, and what is told of the frame and the lanes. 01, "Records": what is stored where.
 ghost use mathlib.Core.Path.{_≡_};
-ghost use Rattle.stored.specs.Stored.{nextIhw, nextTdh, nextInternal, nextCdw, opens, closes, nextFrame, frameTold, lanesTold};
+ghost use Rattle.stored.specs.Stored.{nextIhw, nextTdh, nextInternal, firstCdw, nextCdw, opens, closes, nextFrame, frameTold, lanesTold};
 use crate::Frame;
 use crate::FrameTold;
+use crate::InternalTdh;
+use crate::StoredCdw;
 use crate::StoredIhw;
+use crate::StoredTdh;
 use payload_fsm::ItsPayloadWord;
-use validators::InternalTdh;
-use validators::StoredCdw;
-use validators::StoredTdh;
 use words::Word;
 use words::cdw::Cdw;
 use words::ihw::Ihw;
@@ -61,11 +61,19 @@ pub fn internal(kind: ItsPayloadWord, word: Word, old: InternalTdh) -> InternalT
     }
 }
 
+// A CDW as the first data of a packet.
+pub fn is_first_cdw(seen: bool, word: Word) -> bool
+    ensures { λ r. ⌜ r ≡ firstCdw seen word ⌝ }
+{
+    let id = word.id();
+    !seen & (id == Cdw::ID)
+}
+
 pub fn cdw(kind: ItsPayloadWord, seen: bool, word: Word, old: StoredCdw) -> StoredCdw
     ensures { λ r. ⌜ r ≡ nextCdw kind seen word old ⌝ }
 {
     let is_data = kind.is_data();
-    let first = validators::data_words::is_first_cdw(seen, word);
+    let first = is_first_cdw(seen, word);
     if is_data & first {
         let cdw = Cdw { word: word };
         StoredCdw {

@@ -8,12 +8,12 @@ use native.Mathlib.Omega.{arith}
 use borrow.Author.Tests.{ltb-true, ltb-false}
 use lib.Dec.{ltb}
 use Rattle.words.specs.Tdh.{maxBc}
+use Rattle.packet.specs.declared.Rule.{Rule}
+use Rattle.packet.specs.declared.Rule.the-variants as R
+use Rattle.packet.specs.Settings.{countsOrbits}
 use Rattle.records.specs.declared.Row.{Row}
 use Rattle.records.specs.Records.{when}
-use Rattle.validators.specs.declared.Rule.{Rule}
-use Rattle.validators.specs.declared.Rule.the-variants as R
-use Rattle.validators.specs.Rule.{countsOrbits}
-use Rattle.validators.specs.Detail.{differ}
+use Rattle.records.specs.Detail.{differ}
 use Rattle.tdh_validator.specs.Tdh.{Legal, period, illegal, ranBack, longPeriod, foundBy, intervalRow}
 
 legal-both : (previous current : ℕ) → illegal previous current ≡ false → Legal previous × Legal current

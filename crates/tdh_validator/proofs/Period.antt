@@ -7,13 +7,13 @@ use native.Mathlib.Omega.{arith}
 use borrow.Author.Tests.{le-ltb}
 use Rattle.words.specs.declared.Word.{Word}
 use Rattle.words.specs.Tdh.{maxBc, triggerBc, triggerOrbit}
+use Rattle.packet.specs.declared.Rule.{Rule}
+use Rattle.packet.specs.declared.Rule.the-variants as R
+use Rattle.packet.specs.declared.Settings.{Settings}
+use Rattle.packet.specs.Settings.{countsOrbits}
 use Rattle.records.specs.Records.{when}
-use Rattle.validators.specs.declared.Rule.{Rule}
-use Rattle.validators.specs.declared.Rule.the-variants as R
-use Rattle.validators.specs.declared.Settings.{Settings}
-use Rattle.validators.specs.declared.InternalTdh.{InternalTdh}
-use Rattle.validators.specs.Rule.{countsOrbits}
-use Rattle.validators.specs.Detail.{differ}
+use Rattle.records.specs.Detail.{differ}
+use Rattle.stored.specs.declared.InternalTdh.{InternalTdh}
 use Rattle.tdh_validator.specs.Tdh.{Legal, crossings, IsPeriod, period, orbitDifference, ranBack, foundBy, asked, interval}
 
 module _ (previous current : ℕ) (legal : Legal previous) (legal′ : Legal current) where

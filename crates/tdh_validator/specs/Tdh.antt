@@ -8,15 +8,15 @@ use lib.Dec.{leb, ltb, eqb}
 use Rattle.words.specs.declared.Word.{Word}
 use Rattle.words.specs.Word.{idOf, slice}
 use Rattle.words.specs.Tdh.{tdhId, maxBc, triggerType, internalTrigger, continuation, triggerBc, triggerOrbit, isReserved0}
+use Rattle.packet.specs.declared.Rule.{Rule}
+use Rattle.packet.specs.declared.Settings.{Settings}
+use Rattle.packet.specs.declared.Packet.{Packet}
+use Rattle.packet.specs.Settings.{countsOrbits}
 use Rattle.records.specs.declared.Row.{Row}
 use Rattle.records.specs.Records.{when}
-use Rattle.validators.specs.declared.Rule.{Rule}
-use Rattle.validators.specs.declared.Settings.{Settings}
-use Rattle.validators.specs.declared.Packet.{Packet}
-use Rattle.validators.specs.declared.StoredTdh.{StoredTdh}
-use Rattle.validators.specs.declared.InternalTdh.{InternalTdh}
-use Rattle.validators.specs.Rule.{countsOrbits}
-use Rattle.validators.specs.Detail.{detailed, differ}
+use Rattle.records.specs.Detail.{detailed, differ}
+use Rattle.stored.specs.declared.StoredTdh.{StoredTdh}
+use Rattle.stored.specs.declared.InternalTdh.{InternalTdh}
 
 -- "TDH: 40 (1 id alone; else 2 reserved plus 4 type and internal both 0)."
 abbrev pub detail : Word → ℕ

@@ -4,20 +4,23 @@ use Prim.Native.Nat.{ℕ, _<_, _^_}
 use mathlib.Core.Path.{_≡_, refl, ap}
 use mathlib.Core.Bool.{Bool, true, false, cond, _&&_}
 use mathlib.Core.Logic.{_↔_}
+use Rattle.words.proofs.Tests.{tests}
+use Rattle.packet.specs.declared.Settings.{Settings}
+use Rattle.packet.specs.declared.Packet.{Packet}
+use Rattle.packet.specs.Settings.{GoodSettings, settingsOf}
+use Rattle.packet.specs.Packet.{noPacket}
 use Rattle.payload_fsm.specs.declared.State.{State}
 use Rattle.payload_fsm.specs.declared.State.the-variants as S
-use Rattle.validators.specs.declared.Settings.{Settings}
-use Rattle.validators.specs.declared.Packet.{Packet}
-use Rattle.validators.specs.declared.StoredTdh.{StoredTdh}
-use Rattle.validators.specs.declared.InternalTdh.{InternalTdh}
-use Rattle.validators.specs.declared.StoredCdw.{StoredCdw}
+use Rattle.stored.specs.declared.StoredTdh.{StoredTdh}
+use Rattle.stored.specs.declared.InternalTdh.{InternalTdh}
+use Rattle.stored.specs.declared.StoredCdw.{StoredCdw}
 use Rattle.stored.specs.declared.StoredIhw.{StoredIhw}
 use Rattle.stored.specs.declared.Frame.{Frame}
+use Rattle.stored.specs.Kept.{GoodIhw, GoodTdh, GoodInternal, GoodCdw, GoodFrame}
 use Rattle.cdp_running.specs.declared.Tracker.{Tracker}
-use Rattle.cdp_running.specs.Tracker.{Good, GoodSettings, GoodIhw, GoodTdh, GoodInternal, GoodCdw, GoodFrame, settingsOf, noPacket}
+use Rattle.cdp_running.specs.Tracker.{Good}
 use Rattle.tracker_array.specs.Read.{Sized, settingsGood, ihwGood, tdhGood, internalGood, cdwGood, frameGood, packetBlank, inStart, blank, isGood}
 use Rattle.tracker_array.proofs.State.{starts}
-use Rattle.words.proofs.Tests.{tests}
 
 -- Each part: its test, and what holds of it.
 start-is : (s : State) → (inStart s ≡ true) ↔ (s ≡ S.Ihw)

@@ -9,16 +9,16 @@ use native.Mathlib.Omega.{arith}
 use lib.Dec.{eqb}
 use lib.ListN.{length, replicate}
 use borrow.Author.Tests.{eqb-true, eqb-false, le-leb, eq-eqb, ne-eqb}
+use Rattle.words.proofs.Tests.{both, and-is, tests}
+use Rattle.packet.specs.declared.Rule.{Rule}
+use Rattle.packet.specs.declared.Rule.the-variants as R
 use Rattle.cdp_running.specs.declared.Tracker.{Tracker}
 use Rattle.cdp_running.specs.Tracker.{Good}
-use Rattle.validators.specs.declared.Rule.{Rule}
-use Rattle.validators.specs.declared.Rule.the-variants as R
 use Rattle.tracker_array.specs.Array.{flag, ruleNumber, stateNumber, encodeOf}
 use Rattle.tracker_array.specs.Read.{place, isOn, isFlag, isRule, ruleOf, trackerIn, inForm, Sized, isGood, isTracker, Is, Not, decodeOf}
 use Rattle.tracker_array.specs.Good.{InForm, Fits, GoodArray}
 use Rattle.tracker_array.proofs.State.{state-back, state-low, number-back}
 use Rattle.tracker_array.proofs.Stores.{numbersFrom, spelled}
-use Rattle.words.proofs.Tests.{both, and-is, tests}
 use Rattle.tracker_array.proofs.Invariant.{tests-good, good-tests}
 
 flag-low : (b : Bool) → isFlag (flag b) ≡ true

@@ -5,15 +5,15 @@ use mathlib.Core.Bool.{Bool, true, false, cond}
 use mathlib.Core.List.{List, [], _∷_, _++_}
 use lib.Dec.{eqb}
 use lib.ListN.{length}
+use Rattle.packet.specs.declared.Rule.{Rule}
+use Rattle.packet.specs.declared.Rule.the-variants as R
+use Rattle.packet.specs.declared.Settings.{Settings}
+use Rattle.packet.specs.declared.Packet.{Packet}
 use Rattle.payload_fsm.specs.declared.State.{State}
 use Rattle.payload_fsm.specs.declared.State.the-variants as S
-use Rattle.validators.specs.declared.Rule.{Rule}
-use Rattle.validators.specs.declared.Rule.the-variants as R
-use Rattle.validators.specs.declared.Settings.{Settings}
-use Rattle.validators.specs.declared.Packet.{Packet}
-use Rattle.validators.specs.declared.StoredTdh.{StoredTdh}
-use Rattle.validators.specs.declared.InternalTdh.{InternalTdh}
-use Rattle.validators.specs.declared.StoredCdw.{StoredCdw}
+use Rattle.stored.specs.declared.StoredTdh.{StoredTdh}
+use Rattle.stored.specs.declared.InternalTdh.{InternalTdh}
+use Rattle.stored.specs.declared.StoredCdw.{StoredCdw}
 use Rattle.stored.specs.declared.StoredIhw.{StoredIhw}
 use Rattle.stored.specs.declared.Frame.{Frame}
 use Rattle.cdp_running.specs.declared.Tracker.{Tracker}

@@ -5,19 +5,20 @@ use mathlib.Core.Bool.{Bool, true, false, cond, not, _&&_, _||_}
 use mathlib.Core.List.{List}
 use lib.Dec.{leb, ltb, eqb}
 use lib.ListN.{length, getD}
+use Rattle.packet.specs.declared.Rule.{Rule}
+use Rattle.packet.specs.declared.Rule.the-variants as R
+use Rattle.packet.specs.declared.Settings.{Settings}
+use Rattle.packet.specs.declared.Packet.{Packet}
+use Rattle.packet.specs.Packet.{inRange, maxWords, mostPosition}
 use Rattle.payload_fsm.specs.declared.State.{State}
 use Rattle.payload_fsm.specs.declared.State.the-variants as S
-use Rattle.validators.specs.declared.Rule.{Rule}
-use Rattle.validators.specs.declared.Rule.the-variants as R
-use Rattle.validators.specs.declared.Settings.{Settings}
-use Rattle.validators.specs.declared.Packet.{Packet}
-use Rattle.validators.specs.declared.StoredTdh.{StoredTdh}
-use Rattle.validators.specs.declared.InternalTdh.{InternalTdh}
-use Rattle.validators.specs.declared.StoredCdw.{StoredCdw}
+use Rattle.stored.specs.declared.StoredTdh.{StoredTdh}
+use Rattle.stored.specs.declared.InternalTdh.{InternalTdh}
+use Rattle.stored.specs.declared.StoredCdw.{StoredCdw}
 use Rattle.stored.specs.declared.StoredIhw.{StoredIhw}
 use Rattle.stored.specs.declared.Frame.{Frame}
 use Rattle.cdp_running.specs.declared.Tracker.{Tracker}
-use Rattle.cdp_running.specs.Tracker.{inRange, maxWords, mostPosition, pastIhw, pastTdh}
+use Rattle.cdp_running.specs.Tracker.{pastIhw, pastTdh}
 use Rattle.tracker_array.specs.Array.{size, mark}
 
 abbrev pub place : List ℕ → ℕ → ℕ

@@ -4,13 +4,13 @@ ghost use Rattle.tracker_array.specs.Read.{settingsIn, packetIn, ihwIn, 
 ghost use Rattle.tracker_array.specs.Good.{GoodArray};
 use crate::place;
 use crate::rules;
+use packet::Packet;
+use packet::Settings;
 use stored::Frame;
+use stored::InternalTdh;
+use stored::StoredCdw;
 use stored::StoredIhw;
-use validators::InternalTdh;
-use validators::Packet;
-use validators::Settings;
-use validators::StoredCdw;
-use validators::StoredTdh;
+use stored::StoredTdh;
 
 pub fn settings(a: &[u64]) -> Settings
     requires { ⌜ GoodArray (now a) ⌝ }

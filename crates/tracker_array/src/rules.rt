@@ -2,7 +2,7 @@
 ghost use mathlib.Core.Path.{_≡_};
 ghost use Rattle.tracker_array.specs.Array.{ruleNumber};
 ghost use Rattle.tracker_array.specs.Read.{isRule, ruleOf};
-use validators::Rule;
+use packet::Rule;
 
 pub fn rule_number(rule: Rule) -> u64
     ensures { λ r. ⌜ r ≡ ruleNumber rule ⌝ }

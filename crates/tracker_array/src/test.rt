@@ -4,7 +4,8 @@ ghost use mathlib.Core.Bool.{_&&_, _||_};
 ghost use Prim.Native.Nat.{_+_, _≤_};
 ghost use lib.Dec.{leb, ltb, eqb};
 ghost use lib.ListN.{length};
-ghost use Rattle.cdp_running.specs.Tracker.{inRange, maxWords, pastIhw, pastTdh};
+ghost use Rattle.packet.specs.Packet.{inRange, maxWords};
+ghost use Rattle.cdp_running.specs.Tracker.{pastIhw, pastTdh};
 ghost use Rattle.tracker_array.specs.Array.{size};
 ghost use Rattle.tracker_array.specs.Read.{place, isOn, stateOf, settingsIn, packetIn, ihwIn, tdhIn, internalIn, cdwIn, frameIn, trackerIn, flagsFit, unused, inForm, settingsGood, ihwGood, tdhGood, internalGood, cdwGood, frameGood, present, packetBlank, inStart, blank, isGood};
 ghost use Rattle.tracker_array.specs.Good.{InForm};
@@ -65,7 +66,7 @@ fn packet(a: &[u64]) -> bool
     requires { ⌜ InForm (now a) ⌝ }
     ensures { λ r. ⌜ r ≡ inRange (packetIn (now (a .entry))) ⌝ }
 {
-    cdp_running::are_in_range(
+    packet::are_in_range(
         a[place::POSITION],
         a[place::ORBIT],
         a[place::TRIGGER],
@@ -126,7 +127,7 @@ fn came_good(a: &[u64]) -> bool
     if !packet(a) {
         return false;
     }
-    a[place::COUNT] <= (cdp_running::MAX_WORDS as u64)
+    a[place::COUNT] <= (packet::MAX_WORDS as u64)
 }
 
 // What is stored.

@@ -9,14 +9,14 @@ use crate::MARK;
 use crate::place;
 use crate::rules;
 use crate::states;
+use packet::Packet;
+use packet::Settings;
 use payload_fsm::State;
 use stored::Frame;
+use stored::InternalTdh;
+use stored::StoredCdw;
 use stored::StoredIhw;
-use validators::InternalTdh;
-use validators::Packet;
-use validators::Settings;
-use validators::StoredCdw;
-use validators::StoredTdh;
+use stored::StoredTdh;
 
 fn flag(b: bool) -> u64
     ensures { λ r. ⌜ r ≡ flag b ⌝ }

@@ -9,17 +9,18 @@ use native.Mathlib.Omega.{arith}
 use lib.Dec.{ltb, eqb}
 use borrow.Author.Tests.{ltb-true, ltb-false, eqb-true, eqb-false, ne-eqb, not-false, lt-ltb, le-ltb}
 use Rattle.words.specs.declared.Word.{Word}
-use Rattle.words.specs.declared.util.LaneAnswer.the-variants as L
+use Rattle.words.specs.declared.lanes.LaneAnswer.the-variants as L
 use Rattle.words.specs.Word.{idOf}
 use Rattle.words.specs.Lanes.{isLaneActive, lastLane, isActive}
 use Rattle.words.proofs.Bits.{bits-below}
 use Rattle.words.proofs.Tests.{both}
 use Rattle.data_ids.specs.DataIds.{isDataId, innerLane, outerLane, inputNumber, laneNumber, isInner, laneOf}
 use Rattle.data_ids.proofs.Table.{same-at-ids}
+use Rattle.packet.specs.declared.Settings.{Settings}
 use Rattle.records.specs.Records.{Record, Each, given, recordAt, when}
-use Rattle.validators.specs.declared.Settings.{Settings}
-use Rattle.validators.specs.declared.StoredCdw.{StoredCdw}
-use Rattle.validators.specs.DataWords.{firstCdw, inner, outer, laneCode, laneRow, dataRows}
+use Rattle.stored.specs.declared.StoredCdw.{StoredCdw}
+use Rattle.stored.specs.Stored.{firstCdw}
+use Rattle.validators.specs.DataWords.{inner, outer, laneCode, laneRow, dataRows}
 
 -- The ids of a barrel, by their top bits.
 abbrev inBarrel : Bool → ℕ → Bool

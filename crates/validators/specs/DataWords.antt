@@ -9,21 +9,18 @@ use mathlib.Core.List.{List, [], _∷_}
 use lib.Dec.{ltb, eqb}
 use Rattle.words.specs.declared.Word.{Word}
 use Rattle.words.specs.Word.{idOf}
-use Rattle.words.specs.Cdw.{cdwId, userFields, wordIndex}
-use Rattle.data_ids.specs.DataIds.{isDataId, innerLane, outerLane, inputNumber}
-use Rattle.words.specs.declared.util.LaneAnswer.{LaneAnswer}
+use Rattle.words.specs.Cdw.{userFields, wordIndex}
+use Rattle.words.specs.declared.lanes.LaneAnswer.{LaneAnswer}
 use Rattle.words.specs.Lanes.{laneAnswer, isActive, isMissing}
+use Rattle.data_ids.specs.DataIds.{isDataId, innerLane, outerLane, inputNumber}
+use Rattle.packet.specs.declared.Settings.{Settings}
 use Rattle.payload_fsm.specs.declared.ItsPayloadWord.the-variants as K
 use Rattle.payload_fsm.specs.Step.{guessCode}
 use Rattle.records.specs.declared.Row.{Row}
 use Rattle.records.specs.Records.{when}
-use Rattle.validators.specs.declared.Settings.{Settings}
-use Rattle.validators.specs.declared.StoredCdw.{StoredCdw}
-use Rattle.validators.specs.Detail.{differ}
-
--- "with no data seen yet in this packet and id 0xF8"
-abbrev pub firstCdw : Bool → Word → Bool
-firstCdw seen w = not seen && eqb (idOf w) cdwId
+use Rattle.records.specs.Detail.{differ}
+use Rattle.stored.specs.declared.StoredCdw.{StoredCdw}
+use Rattle.stored.specs.Stored.{firstCdw}
 
 -- "top bits": bits 7:5 of the id.
 abbrev pub topBits : Word → ℕ

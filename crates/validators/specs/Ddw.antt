@@ -8,13 +8,13 @@ use lib.Dec.{eqb}
 use Rattle.words.specs.declared.Word.{Word}
 use Rattle.words.specs.Word.{idOf}
 use Rattle.words.specs.Ddw.{ddw0Id, index, isReserved0}
+use Rattle.packet.specs.declared.Settings.{Settings}
+use Rattle.packet.specs.declared.Packet.{Packet}
 use Rattle.payload_fsm.specs.declared.ItsPayloadWord.the-variants as K
 use Rattle.payload_fsm.specs.Step.{guessCode}
 use Rattle.records.specs.declared.Row.{Row}
 use Rattle.records.specs.Records.{when}
-use Rattle.validators.specs.declared.Settings.{Settings}
-use Rattle.validators.specs.declared.Packet.{Packet}
-use Rattle.validators.specs.Detail.{detailed, differ}
+use Rattle.records.specs.Detail.{detailed, differ}
 
 abbrev pub detail : Word → ℕ
 detail w = cond (eqb (idOf w) ddw0Id) (cond (isReserved0 w) 0 2 + cond (differ (index w) 0) 4 0) 1

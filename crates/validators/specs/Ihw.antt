@@ -9,11 +9,11 @@ use lib.Dec.{eqb}
 use Rattle.words.specs.declared.Word.{Word}
 use Rattle.words.specs.Word.{idOf}
 use Rattle.words.specs.Ihw.{ihwId, isReserved0}
+use Rattle.packet.specs.declared.Settings.{Settings}
+use Rattle.packet.specs.declared.Packet.{Packet}
 use Rattle.records.specs.declared.Row.{Row}
 use Rattle.records.specs.Records.{when}
-use Rattle.validators.specs.declared.Settings.{Settings}
-use Rattle.validators.specs.declared.Packet.{Packet}
-use Rattle.validators.specs.Detail.{detailed, differ}
+use Rattle.records.specs.Detail.{detailed, differ}
 
 abbrev pub detail : Word → ℕ
 detail w = cond (eqb (idOf w) ihwId) (cond (isReserved0 w) 0 2) 1

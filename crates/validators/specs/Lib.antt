@@ -1,6 +1,4 @@
--- 01, "Records, in the order given": the rows of each kind of word but the TDH, in 01's order; and 02's two rules of a period.
-pub mod Rule
-pub mod Detail
+-- 01, "Records, in the order given": the rows of each kind of word but the TDH, in 01's order.
 pub mod Ihw
 pub mod Tdt
 pub mod Ddw

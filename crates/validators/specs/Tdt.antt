@@ -7,10 +7,10 @@ use lib.Dec.{eqb}
 use Rattle.words.specs.declared.Word.{Word}
 use Rattle.words.specs.Word.{idOf}
 use Rattle.words.specs.Tdt.{tdtId, packetDone, isReserved0}
+use Rattle.packet.specs.declared.Settings.{Settings}
 use Rattle.records.specs.declared.Row.{Row}
 use Rattle.records.specs.Records.{when}
-use Rattle.validators.specs.declared.Settings.{Settings}
-use Rattle.validators.specs.Detail.{detailed}
+use Rattle.records.specs.Detail.{detailed}
 
 abbrev pub detail : Word → ℕ
 detail w = cond (eqb (idOf w) tdtId) (cond (isReserved0 w) 0 2) 1

@@ -1,28 +1,21 @@
 // The records of a data word or CDW. 01, "Records": data word or CDW kind; 02, ticket 4.
 ghost use mathlib.Core.Path.{_≡_};
 ghost use Rattle.records.specs.Records.{padded};
-ghost use Rattle.validators.specs.DataWords.{firstCdw, laneRow, dataRows};
-use crate::Settings;
-use crate::StoredCdw;
+ghost use Rattle.validators.specs.DataWords.{laneRow, dataRows};
 use data_ids::ib_data_word_id_to_lane;
 use data_ids::is_data_word_id;
 use data_ids::ob_data_word_id_to_input_number_connector;
 use data_ids::ob_data_word_id_to_lane;
+use packet::Settings;
 use records::MOST;
 use records::Row;
 use records::pick;
 use records::when;
+use stored::StoredCdw;
+use stored::next::is_first_cdw;
 use words::Word;
 use words::cdw::Cdw;
-use words::util::lane_answer;
-
-// A CDW as the first data of a packet.
-pub fn is_first_cdw(seen: bool, word: Word) -> bool
-    ensures { λ r. ⌜ r ≡ firstCdw seen word ⌝ }
-{
-    let id = word.id();
-    !seen & (id == Cdw::ID)
-}
+use words::lanes::lane_answer;
 
 // The row on the lane of an inner or an outer word: the lane is not active, or there is no such lane.
 fn lane_row(asked: bool, code: u64, inner: bool, lane: u8, lanes: u32) -> Row

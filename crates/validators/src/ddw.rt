@@ -2,8 +2,8 @@
 ghost use mathlib.Core.Path.{_≡_};
 ghost use Rattle.records.specs.Records.{padded};
 ghost use Rattle.validators.specs.Ddw.{detail, ddw0Rows};
-use crate::Packet;
-use crate::Settings;
+use packet::Packet;
+use packet::Settings;
 use records::MOST;
 use records::Row;
 use records::none;

@@ -2,7 +2,7 @@
 ghost use mathlib.Core.Path.{_≡_};
 ghost use Rattle.records.specs.Records.{padded};
 ghost use Rattle.validators.specs.Tdt.{detail, tdtRows};
-use crate::Settings;
+use packet::Settings;
 use records::MOST;
 use records::Row;
 use records::none;

@@ -5,10 +5,13 @@ ghost use lib.ListN.{length};
 ghost use Rattle.cdp_running.specs.Tracker.{Good};
 use cdp_running::Told;
 use cdp_running::Tracker;
+use packet::Packet;
+use packet::Rule;
+use packet::Settings;
 use stored::FrameTold;
-use validators::Packet;
-use validators::Rule;
-use validators::Settings;
+use words::little_endian::get16;
+use words::little_endian::get32;
+use words::little_endian::get64;
 
 // The most calls of a file.
 const MOST: u64 = 65536;
@@ -57,35 +60,10 @@ fn take(fd: i32, n: usize) -> Part
     }
 }
 
-fn wide(x: u8) -> u64
-    ensures { λ r. ⌜ r < 256 ⌝ }
-{
-    x as u64
-}
-
 fn one(b: bool) -> u32
     ensures { λ r. ⌜ r ≤ 1 ⌝ }
 {
     if b { 1 } else { 0 }
-}
-
-// Numbers of two, four and eight bytes.
-fn two(b: &[u8; 22], at: usize) -> u16
-    requires { ⌜ at + 2 ≤ 22 ⌝ }
-{
-    (wide(b[at]) + 256 * wide(b[at + 1])) as u16
-}
-
-fn four(b: &[u8; 22], at: usize) -> u32
-    requires { ⌜ at + 4 ≤ 22 ⌝ }
-{
-    two(b, at) as u32 + 65536 * (two(b, at + 2) as u32)
-}
-
-fn eight(b: &[u8; 22], at: usize) -> u64
-    requires { ⌜ at + 8 ≤ 22 ⌝ }
-{
-    four(b, at) as u64 + 4294967296 * (four(b, at + 4) as u64)
 }
 
 fn settings_of(b: &[u8; 22]) -> Settings {
@@ -93,21 +71,30 @@ fn settings_of(b: &[u8; 22]) -> Settings {
         running: b[0] == 1,
         frames: b[1] == 1,
         periodic: b[2] == 1,
-        period: two(b, 3) as u32,
+        period: get16(b, 3) as u32,
         rule: Rule::One,
     }
 }
 
 fn packet_of(b: &[u8; 22]) -> Packet {
     Packet {
-        position: eight(b, 0),
-        orbit: four(b, 8),
-        trigger: four(b, 12),
-        bc: two(b, 16),
-        page: two(b, 18),
+        position: get64(b, 0),
+        orbit: get32(b, 8) as u32,
+        trigger: get32(b, 12) as u32,
+        bc: get16(b, 16) as u16,
+        page: get16(b, 18) as u16,
         stop: b[20],
         format: b[21],
     }
+}
+
+// Are the numbers of a record those that the bytes have?
+fn same_numbers(b: &[u8; 22], out: &[u64; 24], at: usize) -> bool
+    requires { ⌜ at + 4 ≤ 24 ⌝ }
+{
+    let there = (out[at] == get64(b, 0)) & (out[at + 1] == get16(b, 8));
+    let numbers = (out[at + 2] == get32(b, 10)) & (out[at + 3] == get32(b, 14));
+    there & numbers
 }
 
 // Is record i the one that the file has next?
@@ -116,10 +103,8 @@ fn same_record(fd: i32, out: &[u64; 24], i: usize) -> bool
 {
     let next = take(fd, 18);
     let b = next.bytes;
-    let at = RECORD * i;
-    let there = (out[at] == eight(&b, 0)) & (out[at + 1] == two(&b, 8) as u64);
-    let numbers = (out[at + 2] == four(&b, 10) as u64) & (out[at + 3] == four(&b, 14) as u64);
-    next.whole & (there & numbers)
+    let same = same_numbers(&b, out, RECORD * i);
+    next.whole & same
 }
 
 fn same_records(fd: i32, out: &[u64; 24], n: u8) -> bool {
@@ -132,6 +117,11 @@ fn same_records(fd: i32, out: &[u64; 24], n: u8) -> bool {
         same = same & this;
     }
     same
+}
+
+// Are these the start and the end that the bytes have?
+fn same_ends(b: &[u8; 22], start: u64, end: u64) -> bool {
+    (start == get64(b, 0)) & (end == get64(b, 8))
 }
 
 // Is a frame, by its number and what the file has next, the one told?
@@ -147,9 +137,7 @@ fn same_frame(fd: i32, told: FrameTold, frame: u8) -> bool {
     let is = match told {
         FrameTold::Nothing => frame == 0,
         FrameTold::Opened => frame == 1,
-        FrameTold::Closed { start, end } => {
-            (frame == 2) & ((start == eight(&b, 0)) & (end == eight(&b, 8)))
-        }
+        FrameTold::Closed { start, end } => (frame == 2) & same_ends(&b, start, end),
     };
     closed.whole & is
 }
@@ -168,8 +156,8 @@ fn same_answer(fd: i32, told: Told, out: &[u64; 24]) -> bool {
         } => {
             let as_kind = payload_fsm::kind_number(kind) == b[0];
             let as_guess = one(guessed) == b[1] as u32;
+            let as_count = records == b[3] as u64;
             let as_frame = same_frame(fd, frame, b[2]);
-            let as_count = records == wide(b[3]);
             let as_records = same_records(fd, out, b[3]);
             next.whole & (as_kind & (as_guess & (as_frame & (as_count & as_records))))
         }

@@ -4,3 +4,4 @@ pub mod Listing
 pub mod Unique
 pub mod Worst
 pub mod Tests
+pub mod LittleEndian

@@ -7,7 +7,8 @@ use lib.Bits.{bitAnd, and-step, and-zero-r}
 use lib.Pow.{shr-shr}
 use borrow.Author.Tests.{lt-ltb}
 use Rattle.words.specs.declared.Word.{Word}
-use Rattle.words.specs.Lanes.{lanes, laneStatus, worstBelow}
+use Rattle.words.specs.Lanes.{lanes}
+use Rattle.words.specs.LaneStatus.{laneStatus, worstBelow}
 use Rattle.words.proofs.Bits.{low-half}
 
 -- The low bit of each of n lanes.

@@ -1,32 +1,13 @@
--- 01, "Words": "Lane status: two bits a lane, 28 lanes, 0 good, 1 warning, 2 error, 3 fatal; a word's status is the worst lane (F)." And "Easy to
--- get wrong": "Lanes above 27 are never active." 02, ticket 4: "a lane that can't be".
+-- Active lanes. 01, "Words": "28 lanes"; "Easy to get wrong": "Lanes above 27 are never active." 02, ticket 4: "a lane that can't be".
 -- Assumes nothing.
-use Prim.Native.Nat.{ℕ, zero, suc, max, _+_, _*_, _/_, _%_, _^_}
+use Prim.Native.Nat.{ℕ, _/_, _%_, _^_}
 use mathlib.Core.Bool.{Bool, true, false, cond, _&&_}
 use lib.Dec.{ltb, eqb}
-use Rattle.words.specs.declared.Word.{Word}
-use Rattle.words.specs.declared.util.LaneAnswer.{LaneAnswer}
-use Rattle.words.specs.declared.util.LaneAnswer.the-variants as L
-use Rattle.words.specs.Word.{bits}
+use Rattle.words.specs.declared.lanes.LaneAnswer.{LaneAnswer}
+use Rattle.words.specs.declared.lanes.LaneAnswer.the-variants as L
 
 abbrev pub lanes : ℕ
 lanes = 28
-
--- "55:0 lane status", of a TDT and of a DDW0: all lanes as one number.
-abbrev pub laneStatus27to0 : Word → ℕ
-laneStatus27to0 = bits 55 0
-
--- Lane n's two bits; a lane above 27 has no status, and counts as good.
-abbrev pub laneStatus : ℕ → Word → ℕ
-laneStatus n w = cond (ltb n lanes) (bits (2 * n + 1) (2 * n) w) 0
-
--- The worst of the lanes below n.
-unfoldable pub worstBelow : ℕ → Word → ℕ
-worstBelow zero w = 0
-worstBelow (suc n) w = max (worstBelow n w) (laneStatus n w)
-
-abbrev pub worstLane : Word → ℕ
-worstLane = worstBelow lanes
 
 -- Whether a lane is among the active lanes, at any lane number.
 abbrev pub isLaneActive : ℕ → ℕ → Bool

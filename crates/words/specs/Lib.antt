@@ -1,8 +1,10 @@
 -- What the words are: read Word first, then the words in any order.
 pub mod Word
+pub mod LittleEndian
 pub mod Tdh
 pub mod Tdt
 pub mod Ihw
 pub mod Ddw
 pub mod Cdw
 pub mod Lanes
+pub mod LaneStatus

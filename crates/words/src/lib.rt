@@ -7,9 +7,11 @@ ghost use Rattle.words.specs.Word.{wordOf, FromBufPost, idOf, bits, isSe
 pub mod cdw;
 pub mod ddw;
 pub mod ihw;
+pub mod lane_status;
+pub mod lanes;
+pub mod little_endian;
 pub mod tdh;
 pub mod tdt;
-pub mod util;
 
 // Bits 63:0 and bits 79:64.
 pub struct Word {
@@ -24,9 +26,9 @@ pub enum FromBuf {
 }
 
 // A byte as a wide number, with its bound.
-fn wide(b: u8) -> u64
+pub(crate) fn wide(b: u8) -> u64
     ensures { λ r. ⌜ r ≡ b ⌝ }
-    ensures { λ r. ⌜ r < 256 ⌝ }
+    ensures { λ r. ⌜ r < 2 ^ 8 ⌝ }
 {
     b as u64
 }

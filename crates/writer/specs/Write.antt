@@ -13,7 +13,7 @@ use Rattle.words.specs.Tdt as Tdt
 use Rattle.words.specs.Ihw as Ihw
 use Rattle.words.specs.Ddw as Ddw
 use Rattle.words.specs.Cdw as Cdw
-use Rattle.words.specs.Lanes.{laneStatus27to0}
+use Rattle.words.specs.LaneStatus.{laneStatus27to0}
 use Rattle.data_ids.specs.DataIds.{isDataId}
 use Rattle.writer.specs.declared.WordKind.{WordKind}
 use Rattle.writer.specs.declared.WordKind.the-variants as K

@@ -38,7 +38,7 @@ pub(crate) fn tdt(word: Word) -> Fields
 {
     let tdt = Tdt { word: word };
     Fields::Tdt {
-        lane_status: words::util::ddw0_tdt_lane_status_27_0(word),
+        lane_status: words::lane_status::ddw0_tdt_lane_status_27_0(word),
         timeout_to_start: tdt.timeout_to_start() as u64,
         timeout_start_stop: tdt.timeout_start_stop() as u64,
         timeout_in_idle: tdt.timeout_in_idle() as u64,
@@ -53,7 +53,7 @@ pub(crate) fn ddw0(word: Word) -> Fields
 {
     let ddw0 = Ddw0 { word: word };
     Fields::Ddw0 {
-        lane_status: words::util::ddw0_tdt_lane_status_27_0(word),
+        lane_status: words::lane_status::ddw0_tdt_lane_status_27_0(word),
         lane_starts_violation: ddw0.lane_starts_violation() as u64,
         transmission_timeout: ddw0.transmission_timeout() as u64,
         index: ddw0.index() as u64,

@@ -5,8 +5,8 @@ use mathlib.Core.Path.{_≡_, sym, ap, _∙_}
 use native.Mathlib.Omega.{arith}
 use lib.ListN.{length, getD}
 use denote.Ref.{now}
+use Rattle.words.proofs.LittleEndian.{byte}
 use Rattle.bench_file.specs.File.{wordPlace}
-use Rattle.bench_file.proofs.Fields.{byte}
 use Rattle.bench_file.proofs.Finding.{word-found, word-inside}
 use borrow.Author.Needs.{needs}
 use Rattle.comparison.proofs.byte_at.Statement.{statement}

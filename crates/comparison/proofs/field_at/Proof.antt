@@ -4,9 +4,9 @@ use Prim.Native.Nat.{ℕ}
 use mathlib.Core.Path.{_≡_, sym, ap, _∙_}
 use native.Mathlib.Omega.{arith}
 use denote.Ref.{now}
-use Rattle.validators.specs.declared.Packet.{Packet}
-use Rattle.comparison.specs.Compare.{fieldOf}
+use Rattle.packet.specs.declared.Packet.{Packet}
 use Rattle.bench_file.proofs.Finding.{packet-found}
+use Rattle.comparison.specs.Compare.{fieldOf}
 use borrow.Author.Needs.{needs}
 use Rattle.comparison.proofs.field_at.Statement.{statement}
 use Rattle.comparison.proofs.field_at.Tie as tie

@@ -3,8 +3,8 @@
 use denote.Ref.{now}
 use native.Mathlib.Omega.{arith}
 use borrow.Author.Tests.{eq-eqb, ne-eqb}
+use Rattle.packet.proofs.Places.{position-low}
 use Rattle.tracker_array.specs.Read.{packetIn}
-use Rattle.cdp_running.proofs.Good.{position-low}
 use borrow.Author.Needs.{needs}
 use Rattle.in_place.proofs.step.position.Statement.{statement}
 use Rattle.in_place.proofs.step.position.Tie as tie

@@ -3,7 +3,7 @@
 use borrow.Author.Needs.{needs}
 use denote.Ref.{now}
 use mathlib.Core.Path.{_∙_}
-use Rattle.words.specs.Lanes.{laneStatus}
+use Rattle.words.specs.LaneStatus.{laneStatus}
 use Rattle.khandzorul.proofs.Lanes.{answered, status-is, status-refused}
 use Rattle.khandzorul.proofs.status.khz_lane_status.Statement.{statement}
 use Rattle.khandzorul.proofs.status.khz_lane_status.Tie as tie

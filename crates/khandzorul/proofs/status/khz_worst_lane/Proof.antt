@@ -3,7 +3,7 @@
 use borrow.Author.Needs.{needs}
 use denote.Ref.{now}
 use mathlib.Core.Path.{_∙_}
-use Rattle.words.specs.Lanes.{worstLane}
+use Rattle.words.specs.LaneStatus.{worstLane}
 use Rattle.khandzorul.proofs.Lanes.{answered, status-is, status-refused}
 use Rattle.khandzorul.proofs.status.khz_worst_lane.Statement.{statement}
 use Rattle.khandzorul.proofs.status.khz_worst_lane.Tie as tie

@@ -1,8 +1,8 @@
 -- `put_line` meets its contract: four numbers, each behind the other.
 -- Assumes nothing.
-use Rattle.report.specs.Text.{line}
 use Rattle.ascii.specs.Text.{space, newline, number, mostNumber}
 use Rattle.ascii.proofs.Putting.{in-room, behind}
+use Rattle.report.specs.Text.{line}
 use native.Mathlib.Omega.{arith}
 use borrow.Author.Needs.{needs}
 use Rattle.report.proofs.text.put_line.Statement.{statement}

@@ -2,7 +2,7 @@
 -- Assumes nothing.
 use denote.Ref.{now}
 use mathlib.Core.Bool.{and-assoc}
-use Rattle.cdp_running.specs.Tracker.{mostPosition}
+use Rattle.packet.specs.Packet.{mostPosition}
 use Rattle.tracker_array.specs.Read.{place}
 use Rattle.tracker_array.proofs.Kept.{below}
 use borrow.Author.Needs.{needs}

@@ -6,8 +6,8 @@ use mathlib.Core.Bool.{Bool, _&&_, _||_, and-assoc}
 use mathlib.Core.List.{List}
 use Prim.Native.Nat.{ℕ}
 use lib.Dec.{leb}
-use Rattle.cdp_running.specs.Tracker.{inRange, maxWords}
 use Rattle.words.proofs.Tests.{fails, holds}
+use Rattle.packet.specs.Packet.{inRange, maxWords}
 use Rattle.tracker_array.specs.Read.{place, isOn, settingsIn, packetIn, ihwIn, tdhIn, internalIn, cdwIn, frameIn, trackerIn, settingsGood, ihwGood, tdhGood, internalGood, cdwGood, frameGood, present, packetBlank, blank, isGood}
 use borrow.Author.Needs.{needs}
 use Rattle.tracker_array.proofs.test.is_good.Statement.{statement}
