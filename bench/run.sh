@@ -1,5 +1,6 @@
 #!/bin/sh
-# run.sh: the benchmark, one command: khz_payload and khz_word of an archive, the plain C version and the given Rust on the same streams.
+# run.sh: the benchmark, one command: khz_payload and khz_word of an archive, the plain C version (tests/oracle/plain.c) and the given Rust
+# on the same streams.
 #
 #     bench/run.sh [--instructions | --stack] [--before OLDER] [--unproved | ARCHIVE]
 #
@@ -55,7 +56,7 @@ if [ -z "$archive" ]; then
     sh tools/native-lib.sh $unproved khandzorul "$archive" >"$work/made" 2>"$work/why" || tail -n 1 "$work/why" >&2
     [ ! -s "$work/made" ] || echo "library   $(sed 's/^native-lib: //' "$work/made")"
 fi
-set -- -std=c11 -O2 -Wall -Wextra -I include bench/bench.c bench/streams.c bench/plain.c
+set -- -std=c11 -O2 -Wall -Wextra -I include -I tests/oracle bench/bench.c bench/streams.c tests/oracle/plain.c
 columns='plain_payload plain_word'
 said() { echo "$1 $2, $(cksum <"$2" | tr ' ' '/') (checksum/bytes)"; }
 if [ -f "$archive" ]; then

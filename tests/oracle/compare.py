@@ -8,7 +8,7 @@ Of the generated sequences kinds, guesses, frames, positions, codes, first, seco
 answers must be equal, or differ exactly as model.py says from the input alone; anything else is unexplained and fails the run. The library's
 side also checks what the header promises (khz_driver -c). Everything is built in a temporary folder.
 
-    --lib     the archive, for this machine; default: tools/native-lib.sh makes it. --plain takes bench/plain.c in its place
+    --lib     the archive, for this machine; default: tools/native-lib.sh makes it. --plain takes plain.c in its place
     --build   builds the Rust in DIR and leaves it there for the next run
     --keep    leaves the calls and the answers in DIR: calls.txt, ours.txt, rust.txt; of smallest/ for the debug build smallest.txt, debug.txt;
               of single functions single.txt, release.single.txt, debug.single.txt
@@ -52,7 +52,7 @@ def build_ours(folder, archive, plain=None):
     command = shlex.split(os.environ.get('CC', 'cc')) + ['-std=c11', '-O2', '-Wall', '-Wextra'] + shlex.split(os.environ.get('CFLAGS', ''))
     command += ['-I', os.path.join(ROOT, 'include')]
     if plain:
-        command += ['-DPLAIN', '-I', os.path.join(ROOT, 'bench')]
+        command += ['-DPLAIN', '-I', HERE]  # a wrong version stands elsewhere, and its header here
     command += [os.path.join(HERE, 'khz_driver.c'), plain or archive, '-o', driver]
     try:
         subprocess.run(command, check=True)
@@ -193,10 +193,10 @@ def main():
             subprocess.run(['sh', os.path.join(ROOT, 'tools', 'native-lib.sh'), 'khandzorul', archive])
         if not a.plain and not os.path.exists(archive):
             raise Failed('no archive%s' % (' at ' + a.lib if a.lib else ''))
-        driver = build_ours(folder, archive, os.path.join(ROOT, 'bench', 'plain.c') if a.plain else None)
+        driver = build_ours(folder, archive, os.path.join(HERE, 'plain.c') if a.plain else None)
         make_calls(calls, inputs, a.seed, a.size)
         run([driver, '-c'], calls, ours)
-        print('oracle: the promises of khandzorul.h hold on these sequences (%s)' % ('bench/plain.c' if a.plain else archive), flush=True)
+        print('oracle: the promises of khandzorul.h hold on these sequences (%s)' % ('tests/oracle/plain.c' if a.plain else archive), flush=True)
         built = a.build or os.path.join(folder, 'rust')
         drivers = {'release': build_rust(built, WITH_DEBUG='1'), 'debug': os.path.join(built, 'target', 'debug', 'driver')}
         run([drivers['release']], calls, rust)

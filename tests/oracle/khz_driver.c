@@ -14,7 +14,7 @@
  * room) give the same records, counts and tracker.
  * A broken promise is told on standard error, and the exit status is 1.
  *
- * Linked with the archive, or with bench/plain.c: then compile with -DPLAIN.
+ * Linked with the archive, or with plain.c: then compile with -DPLAIN.
  */
 #include "khandzorul.h"
 #ifdef PLAIN

@@ -1,5 +1,5 @@
 #!/usr/bin/env python3
-"""wrong.py: wrong versions of bench/plain.c, each of which the short comparison must notice. It tests the comparison, not the library.
+"""wrong.py: wrong versions of plain.c, each of which the short comparison must notice. It tests the comparison, not the library.
 
     wrong.py [--seed N] [--every K] [--build DIR]        --every: a sample, each K-th of them
 
@@ -225,7 +225,7 @@ def main():
     a = p.parse_args()
     wrong = WRONG[::a.every]
     os.environ['CFLAGS'] = '-O1 -w'
-    with open(os.path.join(compare.ROOT, 'bench', 'plain.c')) as f:
+    with open(os.path.join(compare.HERE, 'plain.c')) as f:
         text = f.read()
     missed = 0
     with tempfile.TemporaryDirectory(prefix='khandzorul-wrong-') as folder:

@@ -1,5 +1,5 @@
-/* plain.c: the calls of khandzorul.h by hand in plain C, from document 01. Nothing here is proved. It is the benchmark's third column,
- * which shows what is left to gain, and something to try the comparison with the Rust on.
+/* plain.c: the calls of khandzorul.h by hand in plain C, from documents 01 and 02. Nothing here is proved. The comparison with the Rust is
+ * tried on it and on wrong versions of it (wrong.py), and the benchmark has it as a column, which shows what is left to gain.
  *
  * Unlike the library it takes any array of the right length for a tracker.
  */
