@@ -193,7 +193,7 @@ else
 fi
 if has python3; then
     part 'the library beside the given Rust' python3 tests/oracle/compare.py --lib "$archive" --keep "$work/oracle" --build "$rust"
-    part 'the recorded answers of vectors' python3 tests/oracle/record.py --check --build "$rust"
+    part 'the recorded answers of vectors' python3 tests/make/record.py --check --build "$rust"
 else
     left_out 'the library beside the given Rust' 'no python3'
     left_out 'the recorded answers of vectors' 'no python3'

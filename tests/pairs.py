@@ -16,7 +16,10 @@ import sys
 import tempfile
 
 sys.dont_write_bytecode = True  # nothing is left in the repository
-HEADER, PACKET = struct.Struct('<4I'), struct.Struct('<QIIHHBBH')
+sys.path.append(os.path.join(os.path.dirname(os.path.abspath(__file__)), 'make'))
+import made
+from made import HEADER, PACKET
+
 TOPS = [2**62, 2**32 - 1, 2**32 - 1, 4095, 2**16 - 1, 2**8 - 1]
 
 
@@ -157,13 +160,11 @@ def field(r, f):
 def run(r, packets=None, words=5):
     """Packets as lists: seven fields, and the words."""
     number = r.randint(1, 5) if packets is None else packets
-    return [[field(r, f) for f in range(7)] + [[r.randbytes(10) for _ in range(r.randint(0, words))]] for _ in range(number)]
+    return [[field(r, f) for f in range(7)] + [[r.getrandbits(80) for _ in range(r.randint(0, words))]] for _ in range(number)]
 
 
 def file(packets):
-    words = [w for p in packets for w in p[7]]
-    heads = b''.join(PACKET.pack(*p[:7], len(p[7])) for p in packets)
-    return HEADER.pack(len(packets), len(words), 16, 16 + 24 * len(packets)) + heads + b''.join(words)
+    return made.file(*(made.packet(p[7], *p[:7]) for p in packets))
 
 
 def flip(r, data, low, high):
@@ -185,7 +186,7 @@ def refused(r, packets):
         at = r.choice([0, 4, 8, 12])
         return data[:at] + struct.pack('<I', r.choice([2**32 - 1, 2**31, 0, 17])) + data[at + 4:]
     if how == 4:
-        return HEADER.pack(1, 2798, 16, 40) + PACKET.pack(*packets[0][:7], 2798) + bytes(27980)  # 28,020 bytes
+        return file([packets[0][:7] + [[0] * 2798]])  # 28,020 bytes
     if how == 5:
         return flip(r, data, 38, 40)  # the first packet's count
     at, number = [(0, struct.pack('<Q', r.choice([2**62 + 1, 2**64 - 1]))), (16, struct.pack('<H', r.choice([4096, 65535]))),
@@ -227,7 +228,7 @@ def pair(r, kind):
         shape = r.choice([(1, 2796), (1166, 0), (6, 2784)])  # 16 + 24 packets + 10 words is 28,000
         heads = run(r, shape[0], 0)
         for i in range(shape[1]):
-            heads[i % shape[0]][7].append(r.randbytes(10) if i % 7 else bytes(10))
+            heads[i % shape[0]][7].append(r.getrandbits(80) if i % 7 else 0)
         data = file(heads)
         return data, r.choice([flip(r, data, 16 + 24 * shape[0] - 8, len(data)), data, data[:-1] + b'\x2a', data + b'\0'])
     return r.choice([(file(a), file(b)), (file(b), file(a))])

@@ -15,7 +15,7 @@ import sys
 import tempfile
 
 sys.dont_write_bytecode = True  # nothing is left in the repository
-import compare
+import compare  # and with it what makes the data: tests/make
 import generate
 import record
 

@@ -26,12 +26,13 @@ import sys
 import tempfile
 
 sys.dont_write_bytecode = True  # nothing is left in the repository
+HERE = os.path.dirname(os.path.abspath(__file__))
+ROOT = os.path.dirname(os.path.dirname(HERE))
+sys.path.append(os.path.join(ROOT, 'tests', 'make'))
 import generate
 import model
 import smallest
 
-HERE = os.path.dirname(os.path.abspath(__file__))
-ROOT = os.path.dirname(os.path.dirname(HERE))
 # what the sequences must bring up on one side or the other, or they are too weak: all codes of docs/CODES.md, and 990
 CODES = {30, 40, 41, 42, 44, 45, 50, 59, 60, 70, 81, 440, 441, 442, 443, 444, 445, 990, 991, 992,
          1045, 1046, 1071, 1072, 1073, 1074, 1110, 1111, 1120, 1121, 1122}

@@ -1,5 +1,5 @@
 // The edges of document 01 that are no theorems: what benchcheck prints of the files c00, c01 .. of data/, and the calls that no file can make.
-// make.py makes the files and, from 01 by hand, what is to be printed; it says what each case is about.
+// tests/make/edges.py makes the files and, from 01 by hand, what is to be printed; it says what each case is about.
 ghost use Rattle.cdp_running.specs.Tracker.{Good};
 use cdp_running::Told;
 use cdp_running::Tracker;

@@ -1,4 +1,4 @@
-// Replays recorded calls, and compares each answer with the one that the given Rust gave. tests/oracle/record.py made the files of data/ and
+// Replays recorded calls, and compares each answer with the one that the given Rust gave. tests/make/record.py made the files of data/ and
 // says how they are written. Document 01, "At the edges": "The rest, and the differential runs, are done by a program."
 ghost use Prim.Native.Nat.{_+_, _<_, _≤_};
 ghost use lib.ListN.{length};

@@ -1,11 +1,11 @@
 #!/usr/bin/env python3
-"""record.py: the Rust's answers to a fixed list of call sequences, as the files that the program vectors replays.
+"""record.py: the Rust's answers to a fixed list of call sequences, as the files that the program vectors replays: data/ of crates/vectors, and its stdout.
 
-    record.py [--check] [--build DIR] [DIR]        DIR: default crates/vectors/data
+    record.py [--check] [--build DIR]        --build: builds the Rust in DIR and leaves it there for the next run
 
 Sequences that show a difference of docs/DIFFERENCES.md, by model.py, are left out, but for 3: where there is no such lane, the Rust must answer as model.py
-says, and what is recorded is the 1074 that model.py says of us. --check writes nothing and says whether the files in DIR are what would be written. Without
-the Rust's text or cargo nothing is done, and the last line says so.
+says, and what is recorded is the 1074 that model.py says of us. --check writes nothing and says whether the files are what would be written. Without the
+Rust's text or cargo (tests/oracle/README.md) nothing is done, and the last line says so.
 
 A file is a list of calls, numbers little-endian:
 
@@ -22,8 +22,10 @@ import sys
 import tempfile
 
 sys.dont_write_bytecode = True  # nothing is left in the repository
+sys.path.append(os.path.join(os.path.dirname(os.path.abspath(__file__)), '..', 'oracle'))
 import compare
 import generate
+import made
 import model
 
 SEED = 2024
@@ -50,7 +52,7 @@ def follow(calls, differences=None):
         elif call[0] == 'R':
             m.reset()
         else:
-            said = m.word(call[1].to_bytes(10, 'little').hex())
+            said = m.word(made.ten(call[1]).hex())
             if said is not None and said.kind != model.NO_LANE:
                 raise Shown
             if differences is not None:
@@ -101,7 +103,7 @@ def through_ids(c, settings, ids):
             walk.word(generate.START)
             walk.word(generate.FIRST)
         if walk.state() == 'DATA_':
-            walk.word(generate.tdt(1))
+            walk.word(made.tdt(1))
         walk.any(ids[n - 3])
     return walk.out
 
@@ -118,7 +120,7 @@ def through_continued_ids(c, settings, ids):
         walk.any(ids[n - 1])
         walk.any(ids[n - 2])
         if walk.state() == 'DATA_':
-            walk.word(generate.tdt(0))
+            walk.word(made.tdt(0))
     return walk.out
 
 
@@ -224,7 +226,7 @@ def record(driver, codes):
         said, out = iter(differences), b''
         for call in calls:
             if call[0] == 'W':
-                out += b'\3' + call[1].to_bytes(10, 'little') + answer_bytes(recorded_answer(next(said), next(answers)), codes)
+                out += b'\3' + made.ten(call[1]) + answer_bytes(recorded_answer(next(said), next(answers)), codes)
             else:
                 out += call_bytes(call)
         if next(answers, None) is not None or len(calls) > MOST_CALLS:
@@ -232,30 +234,29 @@ def record(driver, codes):
         yield name, out, len(sequences), words_in(calls)
 
 
+def printed(counts):
+    """What vectors is to print: each file with its sequences and words, and all of them."""
+    counts = counts + [('all', sum(s for _, s, _ in counts), sum(w for _, _, w in counts))]
+    return ''.join('%s: %d sequences, %d words, 0 differ\n' % count for count in counts)
+
+
 def main():
     p = argparse.ArgumentParser(description="The Rust's answers, as the files that vectors replays.")
     p.add_argument('--check', action='store_true')
     p.add_argument('--build')
-    p.add_argument('dir', nargs='?', default=os.path.join(compare.ROOT, 'crates', 'vectors', 'data'))
     a = p.parse_args()
-    codes, other, sequences, words = set(), [], 0, 0
+    codes = set()
     with tempfile.TemporaryDirectory(prefix='khandzorul-record-') as folder:
         recorded = list(record(compare.build_rust(a.build or folder), codes))
     if CODES - codes:
         raise compare.Failed('no answer has the codes %s' % sorted(CODES - codes))
-    for name, out, s, w in recorded:
-        path = os.path.join(a.dir, name)
-        sequences, words = sequences + s, words + w
-        if a.check:
-            if not os.path.exists(path) or open(path, 'rb').read() != out:
-                other.append(name)
-        else:
-            os.makedirs(a.dir, exist_ok=True)
-            with open(path, 'wb') as f:
-                f.write(out)
-            print('record: %s %d sequences %d words %d bytes' % (name, s, w, len(out)))
-    if a.check:
-        print('record: %d sequences, %d words; %s' % (sequences, words, 'other than recorded: ' + ' '.join(other) if other else 'as recorded'))
+    files = {'vectors/data/' + name: out for name, out, _, _ in recorded}
+    files['vectors/stdout'] = printed([(name, s, w) for name, _, s, w in recorded]).encode()
+    other = made.others(files) if a.check else []
+    if not a.check:
+        made.write(files)
+    print('record: %d sequences, %d words; %s' % (sum(s for _, _, s, _ in recorded), sum(w for _, _, _, w in recorded),
+                                                 'other than recorded: ' + ' '.join(other) if other else 'as recorded' if a.check else 'written'))
     return not other
 
 

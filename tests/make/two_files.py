@@ -1,29 +1,20 @@
 #!/usr/bin/env python3
-# make.py: writes the files data/first.bench and data/second.bench, and stdout, what the program compare is to print of them.
+# two_files.py: the files data/first.bench and data/second.bench of crates/compare, and its stdout, what the program compare is to print of them.
 # The second file is the first, two_pages of examples/, with the changes below. The lines were worked out by hand from document 02, ticket 5.
 #
-#     make.py            writes them
-#     make.py --check    exit status 1 where one is not what this script makes
-import os
-import re
+#     two_files.py            writes them
+#     two_files.py --check    exit status 1 where one is not what this script makes
 import sys
 
-HERE = os.path.dirname(os.path.abspath(__file__))
-sys.dont_write_bytecode = True  # no __pycache__ beside the tools
-sys.path.insert(0, os.path.join(HERE, "../../tools"))
+sys.dont_write_bytecode = True  # nothing is left in the repository
 import made
 
-
-def first():
-    text = open(os.path.join(HERE, "../../examples/two_pages.hex")).read()
-    return bytes.fromhex(re.sub(r"#.*", "", text))
+FIRST = made.from_hex("examples/two_pages.hex")
 
 
 # Of the 3 packets and 12 words the third packet with its word and the last word of the second are left out: 2 packets, 10 words.
 def second():
-    file = bytearray(first())
-    header = (2).to_bytes(4, "little") + (10).to_bytes(4, "little") + (16).to_bytes(4, "little") + (64).to_bytes(4, "little")
-    packets, words = file[16:64], file[88:188]
+    packets, words = bytearray(FIRST[16:64]), bytearray(FIRST[88:188])
     packets[0:8] = (2**62 - 1).to_bytes(8, "little")   # packet 0: position
     packets[8:12] = (2**32 - 1).to_bytes(4, "little")  # orbit
     packets[16:18] = (4095).to_bytes(2, "little")      # BC
@@ -35,7 +26,7 @@ def second():
     words[39] = 0xF1                                   # word 3, byte 9
     words[40 + 15] = 1                                 # packet 1: word 1, byte 5
     words[40 + 59] = 0                                 # word 5, byte 9
-    return header + packets + words
+    return made.HEADER.pack(2, 10, 16, 64) + packets + words
 
 
 LINES = """packets 3 2
@@ -57,4 +48,4 @@ differences 14
 
 
 if __name__ == "__main__":
-    made.made(HERE, {"data/first.bench": first(), "data/second.bench": bytes(second()), "stdout": LINES.encode()})
+    made.main({"compare/data/first.bench": FIRST, "compare/data/second.bench": second(), "compare/stdout": LINES.encode()})

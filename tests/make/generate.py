@@ -1,5 +1,5 @@
 #!/usr/bin/env python3
-"""generate.py: call sequences for the comparison, the same for the same seed and size.
+"""generate.py: call sequences for the comparison with the Rust (tests/oracle), the same for the same seed and size. Nothing of them is kept.
 
     generate.py [--size short|long] [--seed N] > CALLS
 
@@ -9,42 +9,19 @@ import argparse
 import random
 import sys
 
+sys.dont_write_bytecode = True  # nothing is left in the repository
+from made import CDW, DDW0, IHW, TDH, TDT, cdw, ddw0, ihw, tdh, tdt, ten, word
+
 SIZES = {'short': 14_000, 'long': 1_000_000}  # words at least, beside every id in every state and every bit
 SETTINGS = [(running, frames, period) for running in (0, 1) for frames in (0, 1) for period in ('-', 198, 0, 3564, 65535)]
 # those of document 02, ticket 9, that the Rust does not have: by rule 2, and a period of more than 16 bits
 LONG_SETTINGS = [(running, frames, period, rule) for running, frames in ((1, 1), (1, 0), (0, 1))
                  for period, rule in (('-', 2), (198, 2), (0, 2), (3564, 2), (10692, 2), (2**32 - 1, 2), (65536, 1), (2**32 - 1, 1))]
-IHW, DDW0, TDH, TDT, CDW = 0xE0, 0xE4, 0xE8, 0xF0, 0xF8
 INNER = list(range(0x20, 0x29))
 OUTER = [i for base in (0x40, 0x48, 0x50, 0x58) for i in range(base, base + 7)]
 LAST_BC, ORBIT_LENGTH, PACKET_WORDS, LAST_POSITION = 3563, 3564, 4096, 2**62
 # crossings about the ends, about 198 and its multiples, and those that are none
 EDGE_BC = [0, 1, 2, 98, 99, 197, 198, 199, 396, 3364, 3365, 3366, 3465, 3562, 3563, 3564, 3565, 3566, 3762, 4093, 4094, 4095]
-
-
-def word(low, high, id):
-    """Bits 63:0, 71:64 and 79:72."""
-    return low | high << 64 | id << 72
-
-
-def ihw(lanes):
-    return word(lanes, 0, IHW)
-
-
-def tdh(type, bc, orbit, internal=0, no_data=0, continuation=0):
-    return word(type | internal << 12 | no_data << 13 | continuation << 14 | bc << 16 | orbit << 32, 0, TDH)
-
-
-def tdt(done, lane_status=0):
-    return word(lane_status, done, TDT)
-
-
-def ddw0(lane_status=0):
-    return word(lane_status, 0, DDW0)
-
-
-def cdw(user, index):
-    return word(user | (index & 0xFFFF) << 48, index >> 16, CDW)
 
 
 class Chance:
@@ -104,7 +81,7 @@ def well_formed(c, settings):
             out.append(['W', cdw(user, index)])
             seen, index = True, index + 1
         for _ in range(n):
-            out.append(['W', word(c.bits(64), c.bits(8), c.pick(ids))])
+            out.append(['W', word(c.bits(64) | c.bits(8) << 64, c.pick(ids))])
             seen = True
 
     def page(number, stop=0):
@@ -123,7 +100,7 @@ def well_formed(c, settings):
         out.append(['W', ihw(lanes)])
         while True:
             no_data = int(c.often(0.2))
-            out.append(['W', tdh(type, bc, orbit, int(internal), no_data)])
+            out.append(['W', tdh(bc, type, orbit, int(internal), no_data)])
             if not no_data:
                 data(c.below(5))
                 if c.often(0.25):
@@ -131,7 +108,7 @@ def well_formed(c, settings):
                     number += 1
                     page(number)
                     out.append(['W', ihw(lanes)])
-                    out.append(['W', tdh(type, bc, orbit, int(internal), 0, 1)])
+                    out.append(['W', tdh(bc, type, orbit, int(internal), 0, 1)])
                     data(c.below(5))
                 out.append(['W', tdt(1, status)])
             bc += 198 if internal else 1 + c.below(600)
@@ -207,14 +184,14 @@ def intervals(c, settings):
         internal = int(c.often(0.8))
         how = c.below(6)
         if how == 0:  # a frame without data, then the next one of this packet
-            out += [['W', tdh(0x10, bc, 7, internal)], ['W', tdt(1)]]
+            out += [['W', tdh(bc, 0x10, 7, internal)], ['W', tdt(1)]]
         elif how == 1:  # cut over two pages
-            out += [['W', tdh(0x10, bc, 7, internal)], ['W', tdt(0)], packet(0, 7, 0x10, bc, 1, 0, 2), ['W', ihw(1)],
-                    ['W', tdh(0x10, bc, 7, internal, 0, 1)], ['W', tdt(1)]]
+            out += [['W', tdh(bc, 0x10, 7, internal)], ['W', tdt(0)], packet(0, 7, 0x10, bc, 1, 0, 2), ['W', ihw(1)],
+                    ['W', tdh(bc, 0x10, 7, internal, 0, 1)], ['W', tdt(1)]]
         elif how == 2:  # a new start
-            out += [['R'], ['W', ihw(1)], ['W', tdh(0x10, bc, 7, internal, 1)]]
+            out += [['R'], ['W', ihw(1)], ['W', tdh(bc, 0x10, 7, internal, 1)]]
         else:
-            out.append(['W', tdh(0x10, bc, 7, internal, 1)])
+            out.append(['W', tdh(bc, 0x10, 7, internal, 1)])
     return out
 
 
@@ -233,18 +210,18 @@ def orbits(c, settings):
         if c.often(0.1):  # a crossing that is none; the next one goes on from the legal one
             bc = c.pick([3564, 3565, 4095])
         if c.often(0.2):
-            out.append(['W', tdh(0x10, c.below(ORBIT_LENGTH), c.orbit(), 0, 1)])
-        out.append(['W', tdh(0x10, bc, orbit, 1, 1)])
+            out.append(['W', tdh(c.below(ORBIT_LENGTH), 0x10, c.orbit(), 0, 1)])
+        out.append(['W', tdh(bc, 0x10, orbit, 1, 1)])
     return out
 
 
 def lanes(c, settings):
     """All ids with top bits 001 and 010, and some others, against an IHW's lanes."""
-    out = [['S', settings], random_packet(c), ['W', ihw(c.lanes())], ['W', tdh(1, 0, 0)]]
+    out = [['S', settings], random_packet(c), ['W', ihw(c.lanes())], ['W', tdh(0, 1, 0)]]
     for id in range(0x1E, 0x62):
-        out.append(['W', word(0, 0, id)])
+        out.append(['W', word(0, id)])
         if c.often(0.05):
-            out += [['R'], ['W', ihw(c.lanes())], ['W', tdh(1, 0, 0)]]
+            out += [['R'], ['W', ihw(c.lanes())], ['W', tdh(0, 1, 0)]]
     return out
 
 
@@ -256,9 +233,9 @@ def calibration(c, settings):
     for _ in range(2 + c.below(6)):
         out += [random_packet(c)]
         out += c.pick([[['R']], [['W', ddw0()]], []])
-        out += [['W', ihw(0x1FF)], ['W', tdh(1, 0, 0)]]
+        out += [['W', ihw(0x1FF)], ['W', tdh(0, 1, 0)]]
         for _ in range(c.below(4)):
-            out.append(['W', cdw(c.pick(users), c.pick(indexes))] if c.often(0.7) else ['W', word(c.bits(64), 0, 0x20)])
+            out.append(['W', cdw(c.pick(users), c.pick(indexes))] if c.often(0.7) else ['W', word(c.bits(64), 0x20)])
         out += [['W', tdt(1)]]
     return out
 
@@ -278,9 +255,9 @@ def any_words(c, settings):
 
 def full_packet(c, settings):
     """A packet of 4,096 words, of which some give records, with a reset in it."""
-    out = [['S', settings], random_packet(c), ['W', ihw(0x1FF)], ['W', tdh(1, 5, 0)]]
+    out = [['S', settings], random_packet(c), ['W', ihw(0x1FF)], ['W', tdh(5, 1, 0)]]
     for n in range(2, PACKET_WORDS):
-        out.append(['W', word(n, 0, 0x20 + c.below(9) if c.often(0.99) else c.bits(8) & 0x7F)])
+        out.append(['W', word(n, 0x20 + c.below(9) if c.often(0.99) else c.bits(8) & 0x7F)])
         if n == 3000:
             out.append(['R'])
     return out
@@ -288,9 +265,9 @@ def full_packet(c, settings):
 
 # Ways into each of the seven states, and each way that a rule tells apart.
 START = ihw(0x1FF)
-FIRST = tdh(0x10, 5, 7)
-EMPTY = tdh(0x10, 5, 7, 0, 1)
-DATA = word(1, 0, 0x21)
+FIRST = tdh(5, 0x10, 7)
+EMPTY = tdh(5, 0x10, 7, 0, 1)
+DATA = word(1, 0x21)
 WAYS = {
     'IHW_': [],
     'IHW_ after DDW0': [START, EMPTY, ddw0()],
@@ -302,8 +279,8 @@ WAYS = {
     'THREE after a TDH with no data': [START, EMPTY],
     'c_IHW_': [START, FIRST, tdt(0)],
     'c_TDH_': [START, FIRST, tdt(0), START],
-    'c_DATA_': [START, FIRST, tdt(0), START, tdh(0x10, 5, 7, 0, 0, 1)],
-    'c_DATA_ with data': [START, FIRST, tdt(0), START, tdh(0x10, 5, 7, 0, 0, 1), DATA],
+    'c_DATA_': [START, FIRST, tdt(0), START, tdh(5, 0x10, 7, 0, 0, 1)],
+    'c_DATA_ with data': [START, FIRST, tdt(0), START, tdh(5, 0x10, 7, 0, 0, 1), DATA],
 }
 
 
@@ -314,7 +291,7 @@ def every_id(c, settings_of):
         for id in range(256):
             rest = c.pick([0, c.bits(72), 1 << c.below(72), 0x10 | c.pick([0, 1]) << 64])
             start = ihw(c.lanes())
-            words = [start if w == START else w for w in way] + [word(rest & 2**64 - 1, rest >> 64, id), DATA, tdt(1), FIRST]
+            words = [start if w == START else w for w in way] + [word(rest, id), DATA, tdt(1), FIRST]
             yield [['S', settings_of(number)], random_packet(c)] + [['W', w] for w in words]
             number += 1
 
@@ -323,7 +300,7 @@ def every_bit(settings_of):
     """A clean word of each kind with one bit of 71:0 turned, and two words behind it."""
     number = 0
     for way, clean in [('IHW_', START), ('THREE after TDT', START), ('c_IHW_', START), ('TDH_', FIRST), ('THREE after TDT', FIRST),
-                       ('c_TDH_', tdh(0x10, 5, 7, 0, 0, 1)), ('DATA_', tdt(1)), ('DATA_', tdt(0)), ('THREE after TDT', ddw0()),
+                       ('c_TDH_', tdh(5, 0x10, 7, 0, 0, 1)), ('DATA_', tdt(1)), ('DATA_', tdt(0)), ('THREE after TDT', ddw0()),
                        ('DATA_', cdw(5, 0)), ('DATA_', DATA)]:
         for bit in range(72):
             words = WAYS[way] + [clean ^ 1 << bit, DATA, tdt(1)]
@@ -366,7 +343,7 @@ def sequences(seed, size):
 def line(call):
     kind = call[0]
     if kind == 'W':
-        return 'W ' + call[1].to_bytes(10, 'little').hex()
+        return 'W ' + ten(call[1]).hex()
     if kind == 'S':
         return 'S ' + ' '.join(map(str, call[1]))
     return ' '.join(map(str, call))

@@ -1,71 +1,19 @@
 #!/usr/bin/env python3
-# make.py: writes the files data/c00, c01 .. and stdout, what the program edges is to print.
-# A case is a rule of document 01, the bytes of a file, and the lines that 01 gives for it, worked out by hand: no program of ours made them.
+# edges.py: the files data/c00, c01 .. of crates/edges, and its stdout, what the program edges is to print.
+# A case is a rule of document 01 or 02, the bytes of a file, and the lines that the document gives for it, worked out by hand: no program of ours made them.
 # The lines of the last part, which no file can show, stand at the end.
 #
-#     make.py            writes them
-#     make.py --check    exit status 1 where one is not what this script makes
-import os
+#     edges.py            writes them
+#     edges.py --check    exit status 1 where one is not what this script makes
 import re
-import struct
 import sys
 
-HERE = os.path.dirname(os.path.abspath(__file__))
-sys.dont_write_bytecode = True  # no __pycache__ beside the tools
-sys.path.insert(0, os.path.join(HERE, "../../tools"))
+sys.dont_write_bytecode = True  # nothing is left in the repository
 import made
-
-
-# Words, from 01, "Words": the bits 71:0, and the id in byte 9.
-def word(ident, bits):
-    return bits.to_bytes(9, "little") + bytes([ident])
-
-
-def ihw(lanes=1, reserved=0):
-    return word(0xE0, lanes | reserved << 28)
-
-
-def tdh(bc, kind=0x10, internal=0, no_data=0, continuation=0, orbit=7, reserved=0):
-    return word(0xE8, kind | internal << 12 | no_data << 13 | continuation << 14 | reserved << 15 | bc << 16 | orbit << 32)
-
-
-def tdt(done=1):
-    return word(0xF0, done << 64)
-
-
-def ddw0():
-    return word(0xE4, 0)
-
-
-def cdw(user=5, index=0):
-    return word(0xF8, user | index << 48)
-
-
-def data(ident=0x20):
-    return word(ident, 0)
-
-
-# A packet of a file, with its words: 01, "Bench file". `count` is what its header says, where that is not the number of its words.
-def packet(words, position=0, orbit=7, trigger=0x10, bc=100, page=0, stop=0, fmt=2, count=None):
-    count = len(words) if count is None else count
-    return struct.pack("<QIIHHBBH", position, orbit, trigger, bc, page, stop, fmt, count), words
-
-
-def file(*packets, packet_offset=16, word_offset=None, words=None, packet_count=None):
-    body = b"".join(w for _, ws in packets for w in ws)
-    offset = 16 + 24 * len(packets) if word_offset is None else word_offset
-    words = len(body) // 10 if words is None else words
-    n = len(packets) if packet_count is None else packet_count
-    return struct.pack("<IIII", n, words, packet_offset, offset) + b"".join(p for p, _ in packets) + body
-
+from made import cdw, data, ddw0, file, ihw, packet, tdh, tdt
 
 # The whole case of 01, to the letter, and the same words in other packets.
-WHOLE_CASE = bytes.fromhex("""
-    01000000 05000000 10000000 28000000
-    0000000000000000 07000000 10000000 EC0D 0000 00 02 0500
-    010000000000000000E0  1010EC0D0700000000E8
-    00000000000000000021  000000000000000001F0
-    1030C6000700000000E8""")
+WHOLE_CASE = made.from_hex("examples/whole_case.hex")
 FIVE = [ihw(), tdh(3564, internal=1), data(0x21), tdt(), tdh(198, internal=1, no_data=1)]
 
 
@@ -119,38 +67,38 @@ refused("6: word offset not 16 + 24 times packets", file(packet(FIVE), word_offs
 refused("6: length one word less", whole()[:-10], 6)
 refused("6: length one byte more", whole() + b"\0", 6)
 refused("6: word offset is a plain number: 24 times 0x0AAAAAAB is 2^32 + 8",
-        struct.pack("<IIII", 0x0AAAAAAB, 0, 16, 24) + bytes(8), 6)
-refused("6: length is a plain number: 10 times 0x1999999A is 2^32 + 4", struct.pack("<IIII", 0, 0x1999999A, 16, 16) + bytes(4), 6)
+        made.HEADER.pack(0x0AAAAAAB, 0, 16, 24) + bytes(8), 6)
+refused("6: length is a plain number: 10 times 0x1999999A is 2^32 + 4", made.HEADER.pack(0, 0x1999999A, 16, 16) + bytes(4), 6)
 
 # 7, 5 and 3.
 refused("7: packets' word counts don't sum to the header's: one less", file(packet(FIVE, count=4)), 7)
 refused("7: one more", file(packet(FIVE, count=6)), 7)
-refused("7: a word and no packet", file(word_offset=16, words=1) + ihw(), 7)
+refused("7: a word and no packet", file(word_offset=16, words=1) + made.ten(ihw()), 7)
 refused("5: position at most 2^62", whole(position=2**62 + 1), 5)
 printed("5: a position of 2^62 is in range", whole(position=2**62),
         "4611686018427387988 1072 1 1", "4611686018427388008 440 3564 198", "4611686018427388008 1045 3564 198")
 refused("5: BC at most 4095", whole(bc=4096), 5)
 printed("5: a BC of 4095 is in range; 445: TDH 3564, packet 4095", whole(bc=4095),
         "74 445 3564 4095", "84 1072 1 1", "104 440 3564 198", "104 1045 3564 198")
-refused("5: format 0 or 2, not 1", whole(fmt=1), 5)
-refused("5: format 0 or 2, not 3", whole(fmt=3), 5)
-printed("format 0: a word each 16 bytes", whole(fmt=0), "96 1072 1 1", "128 440 3564 198", "128 1045 3564 198")
+refused("5: format 0 or 2, not 1", whole(format=1), 5)
+refused("5: format 0 or 2, not 3", whole(format=3), 5)
+printed("format 0: a word each 16 bytes", whole(format=0), "96 1072 1 1", "128 440 3564 198", "128 1045 3564 198")
 refused("3: in a file, a packet's count above 4,096", file(packet(clean(4097))), 3)
 printed("4,096th word accepted: it stands at 64 + 4095 times 10", file(packet(loud_at_the_end(4096))), "41014 1072 1 1")
 
 # "File: 6, 7, then per packet 5, 3."
 refused("6 before 7", file(packet(FIVE, count=4), word_offset=41), 6)
-refused("6 before 5", file(packet(FIVE, fmt=1), packet_offset=40), 6)
+refused("6 before 5", file(packet(FIVE, format=1), packet_offset=40), 6)
 refused("6 before 3", file(packet([], count=4097), packet_offset=40), 6)
-refused("7 before 5", file(packet(FIVE, fmt=1, count=4)), 7)
+refused("7 before 5", file(packet(FIVE, format=1, count=4)), 7)
 refused("7 before 3", file(packet([], count=4097)), 7)
-refused("5 before 3 in a packet", file(packet(clean(4097), fmt=1)), 5)
-refused("packet by packet: 3 of the first before 5 of the second", file(packet(clean(4097)), packet(FIVE, fmt=1)), 3)
-refused("packet by packet: 5 of the first before 3 of the second", file(packet(FIVE, fmt=1), packet(clean(4097))), 5)
+refused("5 before 3 in a packet", file(packet(clean(4097), format=1)), 5)
+refused("packet by packet: 3 of the first before 5 of the second", file(packet(clean(4097)), packet(FIVE, format=1)), 3)
+refused("packet by packet: 5 of the first before 3 of the second", file(packet(FIVE, format=1), packet(clean(4097))), 5)
 refused("the last packet is looked at too", file(packet(FIVE), packet([]), packet([], bc=4096)), 5)
 
 # Packets and words in order.
-printed("packets with no words", file(packet([]), packet([], fmt=0)))
+printed("packets with no words", file(packet([]), packet([], format=0)))
 printed("each packet before its words: those of 0, 2, 0 and 1 words; 30, 2 reserved",
         file(packet([], position=1000, stop=9), packet([ihw(), tdh(100, no_data=1)], position=2000), packet([], position=3000, stop=9),
              packet([ihw(reserved=1)], position=4000, page=1)),
@@ -251,10 +199,10 @@ def fifty_orbits():
 printed("a long clean run of many pages gives no record at all", file(*fifty_orbits()))
 
 # The example of docs/CODES.md. From the first data word on each word has a byte of the next one as its id, and that byte is 0.
-PAGE = b"".join(clean(93))
+PAGE = b"".join(map(made.ten, clean(93)))
 ONE_BYTE_LOST = PAGE[:20] + PAGE[21:] + b"\0"
 printed("one byte lost in the first data word of a page of 93 words: 991 and 70 for each of the 91 words from there on",
-        file(packet([ONE_BYTE_LOST[i:i + 10] for i in range(0, 930, 10)])),
+        file(packet(made.tens(ONE_BYTE_LOST))),
         *["%d %d 0 0" % (64 + 10 * n, code) for n in range(2, 93) for code in (991, 70)])
 
 # What no file can show: 4,097 words in one packet; a word refused with 4 is not counted, so that it stands at 64 when it is given again; with a set
@@ -301,12 +249,11 @@ assert 2147483647 * 3564 == 7653631717908 and 1205097 * 3564 + 1587 == 429496729
 
 
 def main():
-    source = open(os.path.join(HERE, "src/main.rt")).read()
-    told = int(re.search(r"const FILES: u8 = (\d+);", source).group(1))
-    assert told == len(CASES), "src/main.rt opens %d files, and there are %d cases" % (told, len(CASES))
-    files = {"data/c%02d" % i: content for i, (_, content, _) in enumerate(CASES)}
-    files["stdout"] = ("".join("c%02d\n%s" % (i, lines) for i, (_, _, lines) in enumerate(CASES)) + CALLS).encode()
-    made.made(HERE, files)
+    told = int(re.search(r"const FILES: u8 = (\d+);", made.read("crates/edges/src/main.rt").decode()).group(1))
+    assert told == len(CASES), "crates/edges/src/main.rt opens %d files, and there are %d cases" % (told, len(CASES))
+    files = {"edges/data/c%02d" % i: content for i, (_, content, _) in enumerate(CASES)}
+    files["edges/stdout"] = ("".join("c%02d\n%s" % (i, lines) for i, (_, _, lines) in enumerate(CASES)) + CALLS).encode()
+    made.main(files)
 
 
 assert whole() == WHOLE_CASE
