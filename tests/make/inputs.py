@@ -1,7 +1,7 @@
 #!/usr/bin/env python3
 # inputs.py: the stdin of crates/benchcheck and of crates/fields, and their stdouts, what these programs are to print of it.
-# Of benchcheck it is the whole case of document 01, from examples/. Of fields it is the words below, three bytes behind them, and for each the line that
-# was worked out by hand from document 01.
+# Of benchcheck it is the whole case of document 01, from examples/. Of fields it is the words below and three bytes behind them, each with its line, which was
+# checked by hand against docs/RULES.md.
 #
 #     inputs.py            writes them
 #     inputs.py --check    exit status 1 where one is not what this script makes
