@@ -7,10 +7,10 @@ use report::Report;
 
 // Prints the report of a file, up to a write that fails.
 fn print(file: &[u8]) {
-    let mut out = [0u8; 600];
+    let mut out = [0u8; report::MOST];
     let mut report = Report::start(file);
     while !report.finished() {
-        let filled = report.fill(file, &mut out);
+        let filled = report.step(file, &mut out);
         let n = filled.n;
         if !io::write_all(STDOUT_FILENO, &out[..n]) {
             return;

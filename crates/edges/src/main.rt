@@ -20,16 +20,16 @@ fn number(n: u64) {
     io::print_decimal(STDOUT_FILENO, n);
 }
 
-// The report of a file. No report here is longer than the buffer.
+// The report of a file.
 fn show(file: &[u8]) {
-    let mut out = [0u8; 8192];
-    let report = Report::start(file);
-    let filled = report.fill(file, &mut out);
-    let n = filled.n;
-    text(&out[..n]);
-    let after = filled.report;
-    if !after.finished() {
-        text(b"unfinished\n");
+    let mut out = [0u8; report::MOST];
+    let mut report = Report::start(file);
+    while !report.finished() {
+        let filled = report.step(file, &mut out);
+        let n = filled.n;
+        text(&out[..n]);
+        let next = filled.report;
+        report = next;
     }
 }
 

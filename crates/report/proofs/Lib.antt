@@ -1,7 +1,6 @@
 pub mod Lines
 pub mod Steps
 pub mod Keeping
-pub mod Filling
 pub mod Printing
 pub mod Unique
 pub mod Refused

@@ -1,4 +1,4 @@
--- Uniqueness: the contract of `fill` determines its answer and the final buffer. That of `start` is an equation.
+-- Uniqueness: the contract of `step` determines its answer and the final buffer. That of `start` is an equation.
 -- Assumes nothing.
 use Prim.Native.Nat.{ℕ}
 use mathlib.Core.Path.{_≡_}
@@ -6,9 +6,9 @@ use mathlib.Core.List.{List}
 use Rattle.words.proofs.Unique.{unique}
 use Rattle.report.specs.declared.Report.{Report}
 use Rattle.report.specs.declared.Filled.{Filled}
-use Rattle.report.specs.Report.{FillPost}
+use Rattle.report.specs.Report.{StepPost}
 
-pub fill-unique : {file : List ℕ} {report : Report} {buffer after after′ : List ℕ} {first second : Filled} → FillPost file report buffer first after
-    → FillPost file report buffer second after′
+pub step-unique : {file : List ℕ} {report : Report} {buffer after after′ : List ℕ} {first second : Filled} → StepPost file report buffer first after
+    → StepPost file report buffer second after′
     → (first ≡ second) × (after ≡ after′)
-fill-unique a b = (unique (a .prints .answer) (b .prints .answer), unique (a .prints .buffer-is) (b .prints .buffer-is))
+step-unique a b = (unique (a .prints .answer) (b .prints .answer), unique (a .prints .buffer-is) (b .prints .buffer-is))

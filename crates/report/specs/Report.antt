@@ -1,6 +1,6 @@
--- A report of a file on the way: what each step prints, and what calls of `fill` print, each into the room that it is given.
+-- A report of a file on the way: what each step prints, and what the steps print together.
 -- Assumes nothing.
-use Prim.Native.Nat.{ℕ, zero, suc, _+_, _-_, _*_, _^_, _≤_}
+use Prim.Native.Nat.{ℕ, suc, _+_, _-_, _*_, _^_, _≤_}
 use mathlib.Core.Path.{_≡_}
 use mathlib.Core.Bool.{Bool, true, false, cond}
 use mathlib.Core.List.{List, [], _++_}
@@ -42,10 +42,6 @@ pub record Printed : Type 0 where
 
 abbrev pub nothing : Report → Printed
 nothing r = record { report = r; text = [] }
-
--- One text and then what is printed after it.
-abbrev pub before : Printed → Printed → Printed
-before first rest = record { report = rest .report; text = first .text ++ rest .text }
 
 abbrev pub atStage : Stage → Report → Report
 atStage stage r =
@@ -91,6 +87,10 @@ stageStep file r S.Done = nothing r
 unfoldable pub stepOf : List ℕ → Report → Printed
 stepOf file r = stageStep file r (r .stage)
 
+-- In too little room for a word's lines nothing is printed, and the report stays.
+abbrev pub stepIn : List ℕ → Report → ℕ → Printed
+stepIn file r room = cond (ltb room mostPrinted) (nothing r) (stepOf file r)
+
 -- How many steps are left.
 abbrev pub stepsAt : ℕ → Stage → ℕ
 stepsAt n S.Heading = n + 2
@@ -100,16 +100,6 @@ stepsAt n S.Done = 0
 
 unfoldable pub stepsLeft : List ℕ → Report → ℕ
 stepsLeft file r = stepsAt (length (toCome file r)) (r .stage)
-
--- At most so many steps, each where there is room for the most that a step prints.
-unfoldable pub fillFrom : ℕ → List ℕ → Report → ℕ → Printed
-fillFrom zero file r room = nothing r
-fillFrom (suc n) file r room =
-    cond (ltb room mostPrinted) (nothing r)
-    (before (stepOf file r) (fillFrom n file (stepOf file r .report) (room - length (stepOf file r .text))))
-
-abbrev pub fillOf : List ℕ → Report → ℕ → Printed
-fillOf file r room = fillFrom (stepsLeft file r) file r room
 
 -- All is printed.
 abbrev pub isDone : Stage → Bool
@@ -125,7 +115,7 @@ reading S.Items = true
 reading (S.Refused n) = false
 reading S.Done = false
 
--- The invariant of a report of a file, which the start and every call give: its tracker is a good one; and while packets and words are read, the file is
+-- The invariant of a report of a file, which the start and every step give: its tracker is a good one; and while packets and words are read, the file is
 -- not refused, the place is one that its reader comes to, and no word gave more than six records.
 pub record GoodReading (file : List ℕ) (r : Report) : Type 0 where
   pub checked : checkOf file ≡ 0
@@ -150,18 +140,18 @@ pub record Prints (p : Printed) (buffer : List ℕ) (r : Filled) (after : List �
   pub answer : r ≡ filledOf p
   pub buffer-is : after ≡ over (p .text) buffer
 
--- What a call of `fill` gives.
-pub record FillPost (file : List ℕ) (report : Report) (buffer : List ℕ) (r : Filled) (after : List ℕ) : Type 0 where
-  pub prints : Prints (fillOf file report (length buffer)) buffer r after
+-- What a step gives.
+pub record StepPost (file : List ℕ) (report : Report) (buffer : List ℕ) (r : Filled) (after : List ℕ) : Type 0 where
+  pub prints : Prints (stepIn file report (length buffer)) buffer r after
   pub good : GoodReport file (r .report)
 
--- Calls of `fill` one after the other, each with a buffer that has room for a step, until all is printed: how many they are, and what stands at the
--- front of the buffers.
-pub data Calls (file : List ℕ) : Report → ℕ → List ℕ → Type 0 where
-  done : {r : Report} → isDone (r .stage) ≡ true → Calls file r 0 []
-  call : {r : Report} {buffer after : List ℕ} {p : Filled} {n : ℕ} {rest : List ℕ} → isDone (r .stage) ≡ false → mostPrinted ≤ length buffer
-      → FillPost file r buffer p after → Calls file (p .report) n rest
-      → Calls file r (suc n) (take (p .n) after ++ rest)
+-- Steps one after the other, each with a buffer that has room for a word's lines, until all is printed: how many they are, and what stands at the front
+-- of the buffers.
+pub data Steps (file : List ℕ) : Report → ℕ → List ℕ → Type 0 where
+  done : {r : Report} → isDone (r .stage) ≡ true → Steps file r 0 []
+  step : {r : Report} {buffer after : List ℕ} {p : Filled} {n : ℕ} {rest : List ℕ} → isDone (r .stage) ≡ false → mostPrinted ≤ length buffer
+      → StepPost file r buffer p after → Steps file (p .report) n rest
+      → Steps file r (suc n) (take (p .n) after ++ rest)
 
 -- How many records a word call told.
 abbrev pub recordsTold : Told → ℕ

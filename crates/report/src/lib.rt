@@ -1,4 +1,4 @@
-// What benchcheck prints of a bench file, step by step into lent buffers. Document 01, "Bench file".
+// What benchcheck prints of a bench file, step by step into a lent buffer. Document 01, "Bench file".
 ghost use mathlib.Core.Path.{_≡_};
 ghost use Prim.Native.Nat.{_≤_};
 ghost use lib.ListN.{length};
@@ -6,7 +6,7 @@ ghost use Rattle.cdp_running.specs.Tracker.{Good};
 ghost use Rattle.bench_file.specs.Reader.{nextOf};
 ghost use Rattle.bench_file.specs.declared.Found.the-variants as F;
 ghost use Rattle.report.specs.Text.{mostPrinted};
-ghost use Rattle.report.specs.Report.{startReport, firstStage, atStage, itemStep, stepOf, isDone, recordsTold, filledOf, GoodWord, GoodReading, GoodReport, Prints, FillPost};
+ghost use Rattle.report.specs.Report.{startReport, firstStage, atStage, itemStep, stepOf, isDone, recordsTold, filledOf, GoodWord, GoodReading, GoodReport, Prints, StepPost};
 
 mod text;
 
@@ -165,8 +165,8 @@ fn item_step(r: Report, file: &[u8], out: &mut [u8]) -> Filled
     }
 }
 
-// One step: its text at the front of a buffer that has room for the most that a step prints.
-fn step(r: Report, file: &[u8], out: &mut [u8]) -> Filled
+// The step by the stage.
+fn stage_step(r: Report, file: &[u8], out: &mut [u8]) -> Filled
     requires { ⌜ GoodReport (now file) r ⌝ }
     requires { ⌜ mostPrinted ≤ length (now out) ⌝ }
     ensures { λ p. ⌜ Prints (stepOf (now (file .entry)) r) (now (out .entry)) p (now (out .exit)) ⌝ }
@@ -216,28 +216,14 @@ impl Report {
         is_done(stage)
     }
 
-    // As much of the report as has room at the front of out, whose rest stays. A buffer of at least MOST bytes brings the report on.
-    pub fn fill(self, file: &[u8], out: &mut [u8]) -> Filled
+    // One step: its text at the front of out, whose rest stays. A buffer of at least MOST bytes brings the report on.
+    pub fn step(self, file: &[u8], out: &mut [u8]) -> Filled
         requires { ⌜ GoodReport (now file) self ⌝ }
-        ensures { λ p. ⌜ FillPost (now (file .entry)) self (now (out .entry)) p (now (out .exit)) ⌝ }
+        ensures { λ p. ⌜ StepPost (now (file .entry)) self (now (out .entry)) p (now (out .exit)) ⌝ }
     {
-        let mut cur = self;
-        let mut used: usize = 0;
-        while MOST <= out.len() - used {
-            if cur.finished() {
-                return Filled {
-                    report: cur,
-                    n: used,
-                };
-            }
-            let filled = step(cur, file, &mut out[used..]);
-            let next = filled.report;
-            cur = next;
-            used = used + filled.n;
+        if out.len() < MOST {
+            return Filled { report: self, n: 0 };
         }
-        Filled {
-            report: cur,
-            n: used,
-        }
+        stage_step(self, file, out)
     }
 }

@@ -1,17 +1,31 @@
--- `show` is safe: what `fill` printed lies in the buffer.
+-- `show` is safe and ends: each step leaves fewer steps.
 -- Assumes nothing.
+use borrow.Author.Needs.{needs}
+use borrow.Author.Tests.{not-true}
+use mathlib.Core.Path.{_≡_, sym, _∙_}
+use lib.ListN.{length}
 use native.Mathlib.Omega.{arith}
 use Rattle.io.proofs.Counting.{front}
-use Rattle.report.proofs.Printing.{fill-fits}
-use borrow.Author.Needs.{needs}
+use Rattle.report.specs.Text.{mostPrinted}
+use Rattle.report.specs.Report.{GoodReport, stepsLeft}
+use Rattle.report.proofs.Printing.{step-fits, step-onward}
 use Rattle.edges.proofs.show.Statement.{statement}
 use Rattle.edges.proofs.show.Tie as tie
 
-array-share-prefix-out : tie.Need-array-share-prefix-out
-array-share-prefix-out c = omega (arith, fill-fits (c .before .fill .ensures) (c .before .fill .kept .1 .1 .0), c .before .fill .kept .1 .1 .0)
+abbrev Inv-loop : tie.InvT-loop
+Inv-loop file out₀ report₀ out report = GoodReport file report × (length out ≡ mostPrinted)
 
-slice-aggregate-text : tie.Need-slice-aggregate-text
-slice-aggregate-text c = front (c .before .before .fill .result .n) (c .before .before .fill .last .1 .1 .0) (fill-fits (c .before .before .fill .ensures) (c .before .before .fill .kept .1 .1 .0))
+abbrev μ-loop : tie.MeasureT-loop
+μ-loop file out₀ report₀ out report = stepsLeft file report
+
+array-share-prefix-out : tie.Need-array-share-prefix-out Inv-loop μ-loop
+array-share-prefix-out c = omega (arith, step-fits (c .before .step .ensures) (c .before .step .kept .1 .1 .0), c .before .step .kept .1 .1 .0, c .before .before .before .before .before .loop .inv .1)
+
+slice-aggregate-text : tie.Need-slice-aggregate-text Inv-loop μ-loop
+slice-aggregate-text c = front (c .before .before .step .result .n) (c .before .before .step .last .1 .1 .0) (step-fits (c .before .before .step .ensures) (c .before .before .step .kept .1 .1 .0))
+
+loop-less : tie.Need-loop-less Inv-loop μ-loop
+loop-less c = step-onward (c .before .before .before .before .step .ensures) (c .before .before .before .before .before .before .before .before .loop .inv .0) (sym (c .before .before .before .before .before .before .before .finished .ensures) ∙ not-true _ (c .before .before .before .before .before .before .if1 .taken)) (omega (arith, c .before .before .before .before .before .before .before .before .loop .inv .1))
 
 pub show-spec : {M : Type 1} → statement M
-show-spec = tie.close (tie.spec (λ c. search needs) (λ c. search needs) (λ c. search needs) array-share-prefix-out slice-aggregate-text (λ c. search needs) (λ c. search needs) (λ c. search needs) (λ c. search needs) (λ c. search needs) (λ c. search needs))
+show-spec = tie.close (tie.spec Inv-loop μ-loop (λ c. search needs) (λ c. search needs) (λ c. search needs) (λ c. search needs) (λ c. search needs) array-share-prefix-out slice-aggregate-text (λ c. search needs) loop-less (λ c. search needs) (λ c. search needs))

@@ -1,4 +1,4 @@
--- `step` meets its contract: each arm by the stage.
+-- `stage_step` meets its contract: each arm by the stage.
 -- Assumes nothing.
 use borrow.Author.Needs.{needs}
 use denote.Ref.{now}
@@ -8,8 +8,8 @@ use Rattle.ascii.proofs.Putting.{in-room}
 use Rattle.report.specs.Text.{heading, refusedLine}
 use Rattle.report.specs.Report.{reading}
 use Rattle.report.proofs.Steps.{staged, went-on}
-use Rattle.report.proofs.step.Statement.{statement}
-use Rattle.report.proofs.step.Tie as tie
+use Rattle.report.proofs.stage_step.Statement.{statement}
+use Rattle.report.proofs.stage_step.Tie as tie
 
 item-step-requires : tie.Need-item-step-requires
 item-step-requires c κs = (c .before .before .before .before .before .pre .0 .tracker, (c .before .before .before .before .before .pre .0 .going (ap reading (c .before .enum-told2 .given .1)), c .before .before .before .before .before .pre .1))
@@ -28,5 +28,5 @@ returns-3 c = staged (now (c .before .before .before .before .before .before .be
 returns-4 : tie.Need-returns-4
 returns-4 c = staged (now (c .before .before .before .before .args .file)) (c .before .before .before .before .args .r) (c .enum-told3 .given .1) (record { answer = refl; buffer-is = refl })
 
-pub step-spec : {M : Type 1} → statement M
-step-spec = tie.close (tie.spec (λ c. search needs) (λ c. search needs) (λ c. search needs) (λ c. search needs) (λ c. search needs) item-step-requires (λ c. search needs) (λ c. search needs) (λ c. search needs) (λ c. search needs) (λ c. search needs) (λ c. search needs) (λ c. search needs) returns (λ c. search needs) returns-2 (λ c. search needs) returns-3 returns-4)
+pub stage-step-spec : {M : Type 1} → statement M
+stage-step-spec = tie.close (tie.spec (λ c. search needs) (λ c. search needs) (λ c. search needs) (λ c. search needs) (λ c. search needs) item-step-requires (λ c. search needs) (λ c. search needs) (λ c. search needs) (λ c. search needs) (λ c. search needs) (λ c. search needs) (λ c. search needs) returns (λ c. search needs) returns-2 (λ c. search needs) returns-3 returns-4)
