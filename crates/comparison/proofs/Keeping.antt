@@ -2,7 +2,7 @@
 -- Assumes nothing.
 use Prim.Native.Nat.{ℕ, suc, _+_, _-_, _*_, _/_, _%_, _^_, _≤_, _<_}
 use mathlib.Core.Path.{_≡_, refl, sym, ap, _∙_}
-use mathlib.Core.Bool.{Bool, true, false, cond}
+use mathlib.Core.Bool.{Bool, true, false, cond, true≢false}
 use mathlib.Core.List.{List, [], _∷_, _++_, append-nil, append-assoc}
 use native.Mathlib.Nat.{add-zero, sub-zero}
 use native.Mathlib.Omega.{arith}
@@ -12,13 +12,15 @@ use lib.ListN.{length}
 use Rattle.bench_file.specs.File.{countAt, wordsBefore}
 use Rattle.bench_file.proofs.Checking.{one-more}
 use Rattle.bench_file.proofs.Reading.{sound}
+use Rattle.ascii.specs.Steps.{Printed, nothing}
+use Rattle.ascii.proofs.Steps.{Moves, Laws}
 use Rattle.comparison.specs.declared.Place.{Place}
 use Rattle.comparison.specs.declared.Stage.{Stage}
 use Rattle.comparison.specs.declared.Stage.the-variants as S
 use Rattle.comparison.specs.declared.Listing.{Listing}
 use Rattle.comparison.specs.Compare.{common, commonWords, packetsPlace, wordsPlace, countPlace, fieldPlace, bytePlace, each, eachOne, wordPlaces, packetPlaces, places, differs, differing}
 use Rattle.comparison.specs.Text.{lineOf, lines, lastLine, refusedLine}
-use Rattle.comparison.specs.Listing.{standing, Printed, nothing, tell, stageStep, stepOf, isDone, mostLeft, Both, AtCount, AtPacket, AtField, AtByte, GoodAt, Good}
+use Rattle.comparison.specs.Listing.{standing, tell, stageStep, stepOf, isDone, mostLeft, Both, AtCount, AtPacket, AtField, AtByte, GoodAt, Good, printer}
 use Rattle.comparison.proofs.Rows.{each-more, each-none, row}
 
 -- A choice, by its test.
@@ -78,12 +80,12 @@ module _ (a b : List ℕ) where
   unfoldable pub restOf : Listing → List ℕ
   restOf l = restAt l (l .stage)
 
-  -- What a text and the listing after it are to the listing before it.
-  pub record Moves (l : Listing) (p : Printed) : Type 0 where
-    pub at : GoodAt a b (p .listing) (p .listing .stage)
-    pub rest : p .text ++ restOf (p .listing) ≡ restOf l
-    pub less : cond (isDone (l .stage)) 0 1 + mostLeft a b (p .listing) ≤ mostLeft a b l
-    pub low : p .listing .count + mostLeft a b (p .listing) ≤ l .count + mostLeft a b l
+  -- The bound of the counter, and what a step does.
+  abbrev Low : Listing → Type 0
+  Low l = l .count + mostLeft a b l ≤ 2 ^ 32
+
+  abbrev Moved : Listing → Printed Listing → Type 0
+  Moved = Moves (printer a b) restOf (mostLeft a b)
 
   -- A place of which the line is printed, and one of which nothing is.
   told-line : (place : Place) (ps : List Place) (count : ℕ) → differs place ≡ true → lineOf place ++ listed ps (count + 1) ≡ listed (place ∷ ps) count
@@ -108,50 +110,47 @@ module _ (a b : List ℕ) where
       good : (count : ℕ) → GoodAt a b (next count) s
       less : (count : ℕ) → mostLeft a b (next count) < mostLeft a b l
 
-    looked : (place : Place) (ps : List Place) → isDone (l .stage) ≡ false → Onward ps → restOf l ≡ listed (place ∷ ps) (l .count)
-        → Moves l (tell (next (l .count)) place)
-    looked place ps going o e =
-        by-test (Moves l) (differs place) _ _
+    looked : (place : Place) (ps : List Place) → Low l → Onward ps → restOf l ≡ listed (place ∷ ps) (l .count)
+        → Moved l (tell (next (l .count)) place)
+    looked place ps low o e =
+        by-test (Moved l) (differs place) _ _
         (λ t.
         record {
-          at = o .good (l .count + 1);
-          rest = ap (λ (x : List ℕ). lineOf place ++ x) (o .rest (l .count + 1)) ∙ told-line place ps (l .count) t ∙ sym e;
-          less = rw going (omega (arith, o .less (l .count + 1)));
-          low = omega (arith, o .less (l .count + 1));
+          good = record { at = o .good (l .count + 1); low = omega (arith, o .less (l .count + 1)) };
+          front = ap (λ (x : List ℕ). lineOf place ++ x) (o .rest (l .count + 1)) ∙ told-line place ps (l .count) t ∙ sym e;
+          less = λ _. o .less (l .count + 1);
         })
         (λ t.
         record {
-          at = o .good (l .count);
-          rest = o .rest (l .count) ∙ told-none place ps (l .count) t ∙ sym e;
-          less = rw going (omega (arith, o .less (l .count)));
-          low = omega (arith, o .less (l .count));
+          good = record { at = o .good (l .count); low = omega (arith, o .less (l .count)) };
+          front = o .rest (l .count) ∙ told-none place ps (l .count) t ∙ sym e;
+          less = λ _. o .less (l .count);
         })
 
-    moved : (ps : List Place) → isDone (l .stage) ≡ false → Onward ps → restOf l ≡ listed ps (l .count) → Moves l (nothing (next (l .count)))
-    moved ps going o e =
+    moved : (ps : List Place) → Low l → Onward ps → restOf l ≡ listed ps (l .count) → Moved l (nothing (next (l .count)))
+    moved ps low o e =
         record {
-          at = o .good (l .count);
-          rest = o .rest (l .count) ∙ sym e;
-          less = rw going (omega (arith, o .less (l .count)));
-          low = omega (arith, o .less (l .count));
+          good = record { at = o .good (l .count); low = omega (arith, o .less (l .count)) };
+          front = o .rest (l .count) ∙ sym e;
+          less = λ _. o .less (l .count);
         }
 
   abbrev atStage : Stage → Listing → Listing
   atStage s l = standing s (l .packet) (l .part) (l .first) (l .second) (l .count)
 
-  counts : (l : Listing) → AtCount a b l → Moves (atStage S.Counts l) (stageStep a b l S.Counts)
+  counts : (l : Listing) → AtCount a b l → Low (atStage S.Counts l) → Moved (atStage S.Counts l) (stageStep a b l S.Counts)
   unfolding restOf mostLeft wordsBefore
-  counts l g =
-      by-test (Moves (atStage S.Counts l)) (ltb (l .packet) (common a b)) _ _
+  counts l g low =
+      by-test (Moved (atStage S.Counts l)) (ltb (l .packet) (common a b)) _ _
       (λ t.
       let h = ltb-true _ _ t in
       looked (atStage S.Counts l) S.Counts (l .packet + 1) 0 0 0 (countPlace a b (l .packet))
-      (eachOne (common a b - (l .packet + 1)) (l .packet + 1) (countPlace a b) ++ allPackets) refl
+      (eachOne (common a b - (l .packet + 1)) (l .packet + 1) (countPlace a b) ++ allPackets) low
       (record { rest = λ count. refl; good = λ count. record { both = g .both; here = omega arith }; less = λ count. omega arith })
       (rw (each-more (common a b) (l .packet) (λ (p : ℕ). countPlace a b p ∷ []) h)))
       (λ t.
       let h = ltb-false _ _ t in
-      moved (atStage S.Counts l) S.Packet 0 0 0 0 (allPackets) refl
+      moved (atStage S.Counts l) S.Packet 0 0 0 0 (allPackets) low
       (record {
         rest = λ count. rw sub-zero;
         good = λ count. start-packet (g .both);
@@ -162,13 +161,13 @@ module _ (a b : List ℕ) where
       start-packet : {count : ℕ} → Both a b → AtPacket a b (standing S.Packet 0 0 0 0 count)
       start-packet both = record { both = both; here = omega arith; one = refl; two = refl }
 
-  packet : (l : Listing) → AtPacket a b l → Moves (atStage S.Packet l) (stageStep a b l S.Packet)
+  packet : (l : Listing) → AtPacket a b l → Low (atStage S.Packet l) → Moved (atStage S.Packet l) (stageStep a b l S.Packet)
   unfolding restOf mostLeft
-  packet l g =
-      by-test (Moves (atStage S.Packet l)) (ltb (l .packet) (common a b)) _ _
+  packet l g low =
+      by-test (Moved (atStage S.Packet l)) (ltb (l .packet) (common a b)) _ _
       (λ t.
       let h = ltb-true _ _ t in
-      moved (atStage S.Packet l) S.Fields (l .packet) 0 (l .first) (l .second) (eachOne 7 0 (fieldPlace a b (l .packet)) ++ (rowOf (l .packet) ++ packetsFrom (l .packet + 1))) refl
+      moved (atStage S.Packet l) S.Fields (l .packet) 0 (l .first) (l .second) (eachOne 7 0 (fieldPlace a b (l .packet)) ++ (rowOf (l .packet) ++ packetsFrom (l .packet + 1))) low
       (record {
         rest = λ count. refl;
         good = λ count. record { at = record { both = g .both; here = g .here; one = g .one; two = g .two }; within = h; part = omega arith };
@@ -177,18 +176,18 @@ module _ (a b : List ℕ) where
       (rw (packets-more (l .packet) h)))
       (λ t.
       let h = ltb-false _ _ t in
-      moved (atStage S.Packet l) S.Last 0 0 0 0 [] refl
+      moved (atStage S.Packet l) S.Last 0 0 0 0 [] low
       (record { rest = λ count. refl; good = λ count. tt; less = λ count. omega arith })
       (rw (packets-none (l .packet) h)))
 
-  fieldMoves : (l : Listing) → AtField a b l → Moves (atStage S.Fields l) (stageStep a b l S.Fields)
+  fieldMoves : (l : Listing) → AtField a b l → Low (atStage S.Fields l) → Moved (atStage S.Fields l) (stageStep a b l S.Fields)
   unfolding restOf mostLeft
-  fieldMoves l g =
-      by-test (Moves (atStage S.Fields l)) (ltb (l .part) 7) _ _
+  fieldMoves l g low =
+      by-test (Moved (atStage S.Fields l)) (ltb (l .part) 7) _ _
       (λ t.
       let h = ltb-true _ _ t in
       looked (atStage S.Fields l) S.Fields (l .packet) (l .part + 1) (l .first) (l .second) (fieldPlace a b (l .packet) (l .part))
-      (eachOne (7 - (l .part + 1)) (l .part + 1) (fieldPlace a b (l .packet)) ++ (rowOf (l .packet) ++ packetsFrom (l .packet + 1))) refl
+      (eachOne (7 - (l .part + 1)) (l .part + 1) (fieldPlace a b (l .packet)) ++ (rowOf (l .packet) ++ packetsFrom (l .packet + 1))) low
       (record {
         rest = λ count. refl;
         good = λ count. record { at = record { both = g .at .both; here = g .at .here; one = g .at .one; two = g .at .two }; within = g .within; part = omega arith };
@@ -197,7 +196,7 @@ module _ (a b : List ℕ) where
       (rw (each-more 7 (l .part) (λ (i : ℕ). fieldPlace a b (l .packet) i ∷ []) h)))
       (λ t.
       let h = ltb-false _ _ t in
-      moved (atStage S.Fields l) S.Bytes (l .packet) 0 (l .first) (l .second) (rowOf (l .packet) ++ packetsFrom (l .packet + 1)) refl
+      moved (atStage S.Fields l) S.Bytes (l .packet) 0 (l .first) (l .second) (rowOf (l .packet) ++ packetsFrom (l .packet + 1)) low
       (record {
         rest = λ count. rw sub-zero;
         good = λ count. record { at = record { both = g .at .both; here = g .at .here; one = g .at .one; two = g .at .two }; within = g .within; part = omega arith };
@@ -205,17 +204,17 @@ module _ (a b : List ℕ) where
       })
       (rw (each-none 7 (l .part) (λ (i : ℕ). fieldPlace a b (l .packet) i ∷ []) h)))
 
-  byteMoves : (l : Listing) → AtByte a b l → Moves (atStage S.Bytes l) (stageStep a b l S.Bytes)
+  byteMoves : (l : Listing) → AtByte a b l → Low (atStage S.Bytes l) → Moved (atStage S.Bytes l) (stageStep a b l S.Bytes)
   unfolding restOf mostLeft
-  byteMoves l g =
+  byteMoves l g low =
       let sum = one-more a (l .packet) in
       let sum′ = one-more b (l .packet) in
       let few = sound a (g .at .both .one) .count (l .packet) (omega (arith, g .within)) in
-      by-test (Moves (atStage S.Bytes l)) (ltb (l .part) (10 * commonWords a b (l .packet))) _ _
+      by-test (Moved (atStage S.Bytes l)) (ltb (l .part) (10 * commonWords a b (l .packet))) _ _
       (λ t.
       let h = ltb-true _ _ t in
       looked (atStage S.Bytes l) S.Bytes (l .packet) (l .part + 1) (l .first) (l .second) (rowPlace (l .packet) (l .part))
-      (eachOne (10 * commonWords a b (l .packet) - (l .part + 1)) (l .part + 1) (rowPlace (l .packet)) ++ packetsFrom (l .packet + 1)) refl
+      (eachOne (10 * commonWords a b (l .packet) - (l .part + 1)) (l .part + 1) (rowPlace (l .packet)) ++ packetsFrom (l .packet + 1)) low
       (record {
         rest = λ count. refl;
         good = λ count. record { at = record { both = g .at .both; here = g .at .here; one = g .at .one; two = g .at .two }; within = g .within; part = omega arith };
@@ -224,7 +223,7 @@ module _ (a b : List ℕ) where
       (rw (each-more (10 * commonWords a b (l .packet)) (l .part) (λ (j : ℕ). rowPlace (l .packet) j ∷ []) h)))
       (λ t.
       let h = ltb-false _ _ t in
-      moved (atStage S.Bytes l) S.Packet (l .packet + 1) 0 (l .first + countAt a (l .packet)) (l .second + countAt b (l .packet)) (packetsFrom (l .packet + 1)) refl
+      moved (atStage S.Bytes l) S.Packet (l .packet + 1) 0 (l .first + countAt a (l .packet)) (l .second + countAt b (l .packet)) (packetsFrom (l .packet + 1)) low
       (record {
         rest = λ count. refl;
         good = λ count. record { both = g .at .both; here = omega (arith, g .within); one = omega (arith, g .at .one, sum); two = omega (arith, g .at .two, sum′) };
@@ -237,43 +236,26 @@ module _ (a b : List ℕ) where
   last count = rw (append-nil, add-zero)
 
   -- The step by the stage: every listing is one at its own stage.
-  stage : (s : Stage) (l : Listing) → GoodAt a b l s → Moves (atStage s l) (stepOf a b (atStage s l))
+  stage : (s : Stage) (l : Listing) → Good a b (atStage s l) → Moved (atStage s l) (stepOf a b (atStage s l))
   unfolding restOf mostLeft stepOf places
   stage S.Packets l g =
-      looked (atStage S.Packets l) S.Words 0 0 0 0 (packetsPlace a b) _ refl
-      (record { rest = λ count. refl; good = λ count. g; less = λ count. omega arith })
+      looked (atStage S.Packets l) S.Words 0 0 0 0 (packetsPlace a b) _ (g .low)
+      (record { rest = λ count. refl; good = λ count. g .at; less = λ count. omega arith })
       refl
   stage S.Words l g =
-      looked (atStage S.Words l) S.Counts 0 0 0 0 (wordsPlace a b) _ refl
-      (record { rest = λ count. rw sub-zero; good = λ count. record { both = g; here = omega arith }; less = λ count. omega arith })
+      looked (atStage S.Words l) S.Counts 0 0 0 0 (wordsPlace a b) _ (g .low)
+      (record { rest = λ count. rw sub-zero; good = λ count. record { both = g .at; here = omega arith }; less = λ count. omega arith })
       refl
-  stage S.Counts l g = counts l g
-  stage S.Packet l g = packet l g
-  stage S.Fields l g = fieldMoves l g
-  stage S.Bytes l g = byteMoves l g
+  stage S.Counts l g = counts (atStage S.Counts l) (g .at) (g .low)
+  stage S.Packet l g = packet (atStage S.Packet l) (g .at) (g .low)
+  stage S.Fields l g = fieldMoves (atStage S.Fields l) (g .at) (g .low)
+  stage S.Bytes l g = byteMoves (atStage S.Bytes l) (g .at) (g .low)
   stage S.Last l g =
-      record {
-        at = tt;
-        rest = last (l .count);
-        less = omega arith;
-        low = omega arith;
-      }
-  stage (S.Refused n file) l g = record { at = tt; rest = append-nil (refusedLine n file); less = omega arith; low = omega arith }
-  stage S.Done l g = record { at = tt; rest = refl; less = omega arith; low = omega arith }
+      record { good = record { at = tt; low = omega (arith, g .low) }; front = last (l .count); less = λ _. omega arith }
+  stage (S.Refused n file) l g = record { good = record { at = tt; low = omega (arith, g .low) }; front = append-nil (refusedLine n file); less = λ _. omega arith }
+  stage S.Done l g = record { good = g; front = refl; less = λ e. absurd (true≢false e) }
 
-  pub step : (l : Listing) → Good a b l → Moves l (stepOf a b l)
-  step l g = stage (l .stage) l (g .at)
-
-  pub step-good : (l : Listing) → Good a b l → Good a b (stepOf a b l .listing)
-  step-good l g = let m = step l g in record { at = m .at; low = omega (arith, m .low, g .low) }
-
-  pub step-less : (l : Listing) → Good a b l → isDone (l .stage) ≡ false → mostLeft a b (stepOf a b l .listing) < mostLeft a b l
-  step-less l g e = omega (arith, simp e at (step l g .less))
-
-  pub count-low : (l : Listing) → Good a b l → isDone (l .stage) ≡ false → l .count < 2 ^ 32
-  count-low l g e = omega (arith, step-less l g e, g .low)
-
-  -- A listing that is done has nothing to print.
+  -- There is one stage of a listing that is done.
   is-done : (s : Stage) → isDone s ≡ true → s ≡ S.Done
   is-done S.Packets e = cc
   is-done S.Words e = cc
@@ -285,6 +267,9 @@ module _ (a b : List ℕ) where
   is-done (S.Refused n file) e = cc
   is-done S.Done e = refl
 
-  pub done-rest : (l : Listing) → isDone (l .stage) ≡ true → restOf l ≡ []
+  pub laws : Laws (printer a b) restOf (mostLeft a b)
   unfolding restOf
-  done-rest l e = rw (is-done (l .stage) e)
+  laws = record { moves = λ l g. stage (l .stage) l g; none = λ l e. rw (is-done (l .stage) e) }
+
+  pub count-low : (l : Listing) → Good a b l → isDone (l .stage) ≡ false → l .count < 2 ^ 32
+  count-low l g e = omega (arith, laws .moves l g .less e, g .low)

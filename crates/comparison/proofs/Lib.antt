@@ -2,7 +2,6 @@ pub mod Rows
 pub mod Keeping
 pub mod Looking
 pub mod Printing
-pub mod Unique
 pub mod Same
 pub mod Example
 pub mod Never

@@ -1,19 +1,17 @@
--- A listing on the way: what each step prints, and what the steps print together.
+-- A listing on the way: what each step prints.
 -- Assumes nothing.
-use Prim.Native.Nat.{ℕ, suc, _+_, _-_, _*_, _/_, _%_, _^_, _≤_, _<_}
+use Prim.Native.Nat.{ℕ, _+_, _-_, _*_, _/_, _%_, _^_, _≤_, _<_}
 use mathlib.Core.Path.{_≡_}
 use mathlib.Core.Bool.{Bool, true, false, cond}
-use mathlib.Core.List.{List, [], _++_}
+use mathlib.Core.List.{List}
 use lib.Dec.{ltb, eqb}
-use lib.ListN.{length, take}
 use Rattle.words.specs.Word.{wordBytes}
-use Rattle.records.specs.Records.{over}
 use Rattle.bench_file.specs.File.{countAt, wordsBefore, checkOf}
+use Rattle.ascii.specs.Steps.{Printed, nothing, Printer}
 use Rattle.comparison.specs.declared.Place.{Place}
 use Rattle.comparison.specs.declared.Stage.{Stage}
 use Rattle.comparison.specs.declared.Stage.the-variants as S
 use Rattle.comparison.specs.declared.Listing.{Listing}
-use Rattle.comparison.specs.declared.Filled.{Filled}
 use Rattle.comparison.specs.Compare.{refusalOf, common, commonWords, fields, packetsPlace, wordsPlace, countPlace, fieldPlace, bytePlace, differs}
 use Rattle.comparison.specs.Text.{lineOf, lastLine, refusedLine, mostPrinted}
 
@@ -31,70 +29,58 @@ startListing a b = standing (firstStage (refusalOf a) (refusalOf b)) 0 0 0 0 0
 abbrev pub doneListing : ℕ → Listing
 doneListing count = standing S.Done 0 0 0 0 count
 
--- A text, and the listing after it.
-pub record Printed : Type 0 where
-  pub listing : Listing
-  pub text : List ℕ
-
-abbrev pub nothing : Listing → Printed
-nothing l = record { listing = l; text = [] }
-
 -- A place is looked at: where its numbers differ, its line is printed and counted.
 abbrev pub counted : ℕ → Listing → Listing
 counted n l = standing (l .stage) (l .packet) (l .part) (l .first) (l .second) (l .count + n)
 
-abbrev pub tell : Listing → Place → Printed
-tell next place = cond (differs place) (record { listing = counted 1 next; text = lineOf place }) (nothing next)
+abbrev pub tell : Listing → Place → Printed Listing
+tell next place = cond (differs place) (record { next = counted 1 next; text = lineOf place }) (nothing next)
 
 -- The steps, stage by stage. The bytes of a packet's words are passed in one row: byte j of them is byte j % 10 of word j / 10.
-abbrev pub packetsStep : List ℕ → List ℕ → Listing → Printed
+abbrev pub packetsStep : List ℕ → List ℕ → Listing → Printed Listing
 packetsStep a b l = tell (standing S.Words 0 0 0 0 (l .count)) (packetsPlace a b)
 
-abbrev pub wordsStep : List ℕ → List ℕ → Listing → Printed
+abbrev pub wordsStep : List ℕ → List ℕ → Listing → Printed Listing
 wordsStep a b l = tell (standing S.Counts 0 0 0 0 (l .count)) (wordsPlace a b)
 
-abbrev pub countsStep : List ℕ → List ℕ → Listing → Printed
+abbrev pub countsStep : List ℕ → List ℕ → Listing → Printed Listing
 countsStep a b l =
     cond (ltb (l .packet) (common a b))
     (tell (standing S.Counts (l .packet + 1) 0 0 0 (l .count)) (countPlace a b (l .packet)))
     (nothing (standing S.Packet 0 0 0 0 (l .count)))
 
-abbrev pub packetStep : List ℕ → List ℕ → Listing → Printed
+abbrev pub packetStep : List ℕ → List ℕ → Listing → Printed Listing
 packetStep a b l =
     cond (ltb (l .packet) (common a b))
     (nothing (standing S.Fields (l .packet) 0 (l .first) (l .second) (l .count)))
     (nothing (standing S.Last 0 0 0 0 (l .count)))
 
-abbrev pub fieldsStep : List ℕ → List ℕ → Listing → Printed
+abbrev pub fieldsStep : List ℕ → List ℕ → Listing → Printed Listing
 fieldsStep a b l =
     cond (ltb (l .part) fields)
     (tell (standing S.Fields (l .packet) (l .part + 1) (l .first) (l .second) (l .count)) (fieldPlace a b (l .packet) (l .part)))
     (nothing (standing S.Bytes (l .packet) 0 (l .first) (l .second) (l .count)))
 
-abbrev pub bytesStep : List ℕ → List ℕ → Listing → Printed
+abbrev pub bytesStep : List ℕ → List ℕ → Listing → Printed Listing
 bytesStep a b l =
     cond (ltb (l .part) (wordBytes * commonWords a b (l .packet)))
     (tell (standing S.Bytes (l .packet) (l .part + 1) (l .first) (l .second) (l .count)) (bytePlace a b (l .packet) (l .part / wordBytes) (l .part % wordBytes)))
     (nothing
     (standing S.Packet (l .packet + 1) 0 (l .first + countAt a (l .packet)) (l .second + countAt b (l .packet)) (l .count)))
 
-abbrev pub stageStep : List ℕ → List ℕ → Listing → Stage → Printed
+abbrev pub stageStep : List ℕ → List ℕ → Listing → Stage → Printed Listing
 stageStep a b l S.Packets = packetsStep a b l
 stageStep a b l S.Words = wordsStep a b l
 stageStep a b l S.Counts = countsStep a b l
 stageStep a b l S.Packet = packetStep a b l
 stageStep a b l S.Fields = fieldsStep a b l
 stageStep a b l S.Bytes = bytesStep a b l
-stageStep a b l S.Last = record { listing = doneListing (l .count); text = lastLine (l .count) }
-stageStep a b l (S.Refused n file) = record { listing = doneListing (l .count); text = refusedLine n file }
+stageStep a b l S.Last = record { next = doneListing (l .count); text = lastLine (l .count) }
+stageStep a b l (S.Refused n file) = record { next = doneListing (l .count); text = refusedLine n file }
 stageStep a b l S.Done = nothing l
 
-unfoldable pub stepOf : List ℕ → List ℕ → Listing → Printed
+unfoldable pub stepOf : List ℕ → List ℕ → Listing → Printed Listing
 stepOf a b l = stageStep a b l (l .stage)
-
--- In too little room for a line nothing is printed, and the listing stays.
-abbrev pub stepIn : List ℕ → List ℕ → Listing → ℕ → Printed
-stepIn a b l room = cond (ltb room mostPrinted) (nothing l) (stepOf a b l)
 
 -- All is printed.
 abbrev pub isDone : Stage → Bool
@@ -163,23 +149,6 @@ pub record Good (a b : List ℕ) (l : Listing) : Type 0 where
   pub at : GoodAt a b l (l .stage)
   pub low : l .count + mostLeft a b l ≤ 2 ^ 32
 
--- What is told of a text: the listing after it, and how many bytes stand at the front of the buffer, whose rest stays.
-abbrev pub filledOf : Printed → Filled
-filledOf p = record { listing = p .listing; n = length (p .text) }
-
-pub record Prints (p : Printed) (buffer : List ℕ) (r : Filled) (after : List ℕ) : Type 0 where
-  pub answer : r ≡ filledOf p
-  pub buffer-is : after ≡ over (p .text) buffer
-
--- What a step gives.
-pub record StepPost (a b : List ℕ) (l : Listing) (buffer : List ℕ) (r : Filled) (after : List ℕ) : Type 0 where
-  pub prints : Prints (stepIn a b l (length buffer)) buffer r after
-  pub good : Good a b (r .listing)
-
--- Steps one after the other, each with a buffer that has room for a line, until all is printed: how many they are, and what stands at the front of the
--- buffers.
-pub data Steps (a b : List ℕ) : Listing → ℕ → List ℕ → Type 0 where
-  done : {l : Listing} → isDone (l .stage) ≡ true → Steps a b l 0 []
-  step : {l : Listing} {buffer after : List ℕ} {p : Filled} {n : ℕ} {rest : List ℕ} → isDone (l .stage) ≡ false → mostPrinted ≤ length buffer
-      → StepPost a b l buffer p after → Steps a b (p .listing) n rest
-      → Steps a b l (suc n) (take (p .n) after ++ rest)
+-- A listing prints by steps.
+abbrev pub printer : List ℕ → List ℕ → Printer Listing
+printer a b = record { stepOf = stepOf a b; most = mostPrinted; isDone = λ l. isDone (l .stage); Good = Good a b }

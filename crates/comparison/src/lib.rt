@@ -7,9 +7,10 @@ ghost use Rattle.words.specs.Word.{wordBytes};
 ghost use Rattle.words.specs.LittleEndian.{numberAt};
 ghost use Rattle.bench_file.specs.File.{headerBytes, packetAt, countAt, wordPlace};
 ghost use Rattle.bench_file.specs.Reader.{hasPacket, hasWord};
+ghost use Rattle.ascii.specs.Steps.{Prints, StepPost};
 ghost use Rattle.comparison.specs.Compare.{refusalOf, common, fieldOf};
 ghost use Rattle.comparison.specs.Text.{mostPrinted};
-ghost use Rattle.comparison.specs.Listing.{firstStage, isDone, startListing, doneListing, tell, packetsStep, wordsStep, countsStep, packetStep, fieldsStep, bytesStep, stepOf, filledOf, Prints, Both, AtCount, AtPacket, AtField, AtByte, Good, StepPost};
+ghost use Rattle.comparison.specs.Listing.{firstStage, isDone, startListing, doneListing, tell, packetsStep, wordsStep, countsStep, packetStep, fieldsStep, bytesStep, stepOf, Both, AtCount, AtPacket, AtField, AtByte, Good, printer};
 
 mod text;
 
@@ -217,7 +218,7 @@ fn counted(l: Listing) -> Listing
 fn told(next: Listing, place: Place, out: &mut [u8]) -> Filled
     requires { ⌜ next .count < 2 ^ 32 ⌝ }
     requires { ⌜ mostPrinted ≤ length (now out) ⌝ }
-    ensures { λ p. ⌜ Prints (tell next place) (now (out .entry)) p (now (out .exit)) ⌝ }
+    ensures { λ p. ⌜ Prints (tell next place) (now (out .entry)) (p .listing) (p .n) (now (out .exit)) ⌝ }
 {
     if place.first == place.second {
         Filled {
@@ -236,7 +237,7 @@ fn packets_step(l: Listing, a: &[u8], b: &[u8], out: &mut [u8]) -> Filled
     requires { ⌜ Both (now a) (now b) ⌝ }
     requires { ⌜ l .count < 2 ^ 32 ⌝ }
     requires { ⌜ mostPrinted ≤ length (now out) ⌝ }
-    ensures { λ p. ⌜ Prints (packetsStep (now (a .entry)) (now (b .entry)) l) (now (out .entry)) p (now (out .exit)) ⌝ }
+    ensures { λ p. ⌜ Prints (packetsStep (now (a .entry)) (now (b .entry)) l) (now (out .entry)) (p .listing) (p .n) (now (out .exit)) ⌝ }
 {
     let place = Place {
         at: Where::Packets,
@@ -261,7 +262,7 @@ fn words_step(l: Listing, a: &[u8], b: &[u8], out: &mut [u8]) -> Filled
     requires { ⌜ Both (now a) (now b) ⌝ }
     requires { ⌜ l .count < 2 ^ 32 ⌝ }
     requires { ⌜ mostPrinted ≤ length (now out) ⌝ }
-    ensures { λ p. ⌜ Prints (wordsStep (now (a .entry)) (now (b .entry)) l) (now (out .entry)) p (now (out .exit)) ⌝ }
+    ensures { λ p. ⌜ Prints (wordsStep (now (a .entry)) (now (b .entry)) l) (now (out .entry)) (p .listing) (p .n) (now (out .exit)) ⌝ }
 {
     let place = Place {
         at: Where::Words,
@@ -286,7 +287,7 @@ fn counts_step(l: Listing, a: &[u8], b: &[u8], out: &mut [u8]) -> Filled
     requires { ⌜ AtCount (now a) (now b) l ⌝ }
     requires { ⌜ l .count < 2 ^ 32 ⌝ }
     requires { ⌜ mostPrinted ≤ length (now out) ⌝ }
-    ensures { λ p. ⌜ Prints (countsStep (now (a .entry)) (now (b .entry)) l) (now (out .entry)) p (now (out .exit)) ⌝ }
+    ensures { λ p. ⌜ Prints (countsStep (now (a .entry)) (now (b .entry)) l) (now (out .entry)) (p .listing) (p .n) (now (out .exit)) ⌝ }
 {
     if l.packet < common_packets(a, b) {
         let place = Place {
@@ -323,33 +324,27 @@ fn counts_step(l: Listing, a: &[u8], b: &[u8], out: &mut [u8]) -> Filled
     }
 }
 
-fn packet_step(l: Listing, a: &[u8], b: &[u8]) -> Filled
+fn packet_step(l: Listing, a: &[u8], b: &[u8]) -> Listing
     requires { ⌜ AtPacket (now a) (now b) l ⌝ }
-    ensures { λ p. ⌜ p ≡ filledOf (packetStep (now (a .entry)) (now (b .entry)) l) ⌝ }
+    ensures { λ r. ⌜ r ≡ packetStep (now (a .entry)) (now (b .entry)) l .next ⌝ }
 {
     if l.packet < common_packets(a, b) {
-        Filled {
-            listing: Listing {
-                stage: Stage::Fields,
-                packet: l.packet,
-                part: 0,
-                first: l.first,
-                second: l.second,
-                count: l.count,
-            },
-            n: 0,
+        Listing {
+            stage: Stage::Fields,
+            packet: l.packet,
+            part: 0,
+            first: l.first,
+            second: l.second,
+            count: l.count,
         }
     } else {
-        Filled {
-            listing: Listing {
-                stage: Stage::Last,
-                packet: 0,
-                part: 0,
-                first: 0,
-                second: 0,
-                count: l.count,
-            },
-            n: 0,
+        Listing {
+            stage: Stage::Last,
+            packet: 0,
+            part: 0,
+            first: 0,
+            second: 0,
+            count: l.count,
         }
     }
 }
@@ -358,7 +353,7 @@ fn fields_step(l: Listing, a: &[u8], b: &[u8], out: &mut [u8]) -> Filled
     requires { ⌜ AtField (now a) (now b) l ⌝ }
     requires { ⌜ l .count < 2 ^ 32 ⌝ }
     requires { ⌜ mostPrinted ≤ length (now out) ⌝ }
-    ensures { λ p. ⌜ Prints (fieldsStep (now (a .entry)) (now (b .entry)) l) (now (out .entry)) p (now (out .exit)) ⌝ }
+    ensures { λ p. ⌜ Prints (fieldsStep (now (a .entry)) (now (b .entry)) l) (now (out .entry)) (p .listing) (p .n) (now (out .exit)) ⌝ }
 {
     if l.part < FIELDS {
         let place = Place {
@@ -400,7 +395,7 @@ fn bytes_step(l: Listing, a: &[u8], b: &[u8], out: &mut [u8]) -> Filled
     requires { ⌜ AtByte (now a) (now b) l ⌝ }
     requires { ⌜ l .count < 2 ^ 32 ⌝ }
     requires { ⌜ mostPrinted ≤ length (now out) ⌝ }
-    ensures { λ p. ⌜ Prints (bytesStep (now (a .entry)) (now (b .entry)) l) (now (out .entry)) p (now (out .exit)) ⌝ }
+    ensures { λ p. ⌜ Prints (bytesStep (now (a .entry)) (now (b .entry)) l) (now (out .entry)) (p .listing) (p .n) (now (out .exit)) ⌝ }
 {
     let first = count_at(a, l.packet);
     let second = count_at(b, l.packet);
@@ -461,14 +456,17 @@ fn done(count: u64) -> Listing
 fn stage_step(l: Listing, a: &[u8], b: &[u8], out: &mut [u8]) -> Filled
     requires { ⌜ Good (now a) (now b) l ⌝ }
     requires { ⌜ mostPrinted ≤ length (now out) ⌝ }
-    ensures { λ p. ⌜ Prints (stepOf (now (a .entry)) (now (b .entry)) l) (now (out .entry)) p (now (out .exit)) ⌝ }
+    ensures { λ p. ⌜ Prints (stepOf (now (a .entry)) (now (b .entry)) l) (now (out .entry)) (p .listing) (p .n) (now (out .exit)) ⌝ }
 {
     let stage = l.stage;
     match stage {
         Stage::Packets => packets_step(l, a, b, out),
         Stage::Words => words_step(l, a, b, out),
         Stage::Counts => counts_step(l, a, b, out),
-        Stage::Packet => packet_step(l, a, b),
+        Stage::Packet => Filled {
+            listing: packet_step(l, a, b),
+            n: 0,
+        },
         Stage::Fields => fields_step(l, a, b, out),
         Stage::Bytes => bytes_step(l, a, b, out),
         Stage::Last => Filled {
@@ -511,7 +509,7 @@ impl Listing {
     // One step: at most one line, at the front of out, whose rest stays. A buffer of at least MOST bytes brings the listing on.
     pub fn step(self, a: &[u8], b: &[u8], out: &mut [u8]) -> Filled
         requires { ⌜ Good (now a) (now b) self ⌝ }
-        ensures { λ p. ⌜ StepPost (now (a .entry)) (now (b .entry)) self (now (out .entry)) p (now (out .exit)) ⌝ }
+        ensures { λ p. ⌜ StepPost (printer (now (a .entry)) (now (b .entry))) self (now (out .entry)) (p .listing) (p .n) (now (out .exit)) ⌝ }
     {
         if out.len() < MOST {
             return Filled {

@@ -1,8 +1,8 @@
--- What a step of a report does: it keeps the invariant, prints the front of what is still to be printed, and leaves one step less.
+-- What a step of a report does: it keeps the invariant, prints the front of what is still to be printed, and leaves fewer steps.
 -- Assumes nothing.
-use Prim.Native.Nat.{ℕ, _+_, _≤_, _<_}
+use Prim.Native.Nat.{ℕ, _+_, _≤_}
 use mathlib.Core.Path.{_≡_, refl, sym, ap}
-use mathlib.Core.Bool.{Bool, true, false, cond, true≢false}
+use mathlib.Core.Bool.{Bool, true, false, true≢false}
 use mathlib.Core.List.{List, [], _++_, append-nil, append-assoc}
 use native.Mathlib.Nat.{add-zero, add-assoc}
 use native.Mathlib.Omega.{arith}
@@ -22,12 +22,14 @@ use Rattle.bench_file.specs.declared.Found.the-variants as F
 use Rattle.bench_file.specs.File.{bytesAt}
 use Rattle.bench_file.specs.Reader.{nextOf}
 use Rattle.bench_file.proofs.Reading.{sound, packet-given, word-given, end-given}
+use Rattle.ascii.specs.Steps.{Printed}
+use Rattle.ascii.proofs.Steps.{Moves, Laws}
 use Rattle.report.specs.declared.Stage.{Stage}
 use Rattle.report.specs.declared.Stage.the-variants as S
 use Rattle.report.specs.declared.Report.{Report}
 use Rattle.report.specs.Text.{lines, heading, recordsLine, refusedLine}
 use Rattle.report.specs.File.{recordsFrom}
-use Rattle.report.specs.Report.{toCome, Printed, atStage, itemStep, stepOf, stepsLeft, isDone, GoodReading, GoodReport}
+use Rattle.report.specs.Report.{toCome, atStage, itemStep, stepOf, isDone, GoodReading, GoodReport, printer}
 use Rattle.report.proofs.Lines.{lines-append}
 
 -- A packet call and a word call keep the tracker good, and a word gives at most six records.
@@ -63,11 +65,15 @@ restAt file r S.Done = []
 unfoldable pub restOf : List ℕ → Report → List ℕ
 restOf file r = restAt file r (r .stage)
 
--- What a text and the report after it are to the report before it: a step less is left, but where all was done.
-pub record Moves (file : List ℕ) (r : Report) (p : Printed) : Type 0 where
-  pub good : GoodReport file (p .report)
-  pub rest : p .text ++ restOf file (p .report) ≡ restOf file r
-  pub steps : stepsLeft file r ≡ cond (isDone (r .stage)) 0 1 + stepsLeft file (p .report)
+-- At most so many steps are left.
+abbrev stepsAt : ℕ → Stage → ℕ
+stepsAt n S.Heading = n + 2
+stepsAt n S.Items = n + 1
+stepsAt n (S.Refused m) = 1
+stepsAt n S.Done = 0
+
+unfoldable pub stepsLeft : List ℕ → Report → ℕ
+stepsLeft file r = stepsAt (length (toCome file r)) (r .stage)
 
 -- There is one stage of a report that is done.
 is-done : (s : Stage) → isDone s ≡ true → s ≡ S.Done
@@ -77,54 +83,51 @@ is-done (S.Refused n) e = cc
 is-done S.Done e = refl
 
 module _ (file : List ℕ) where
+  -- What a step does.
+  abbrev Moved : Report → Printed Report → Type 0
+  Moved = Moves (printer file) (restOf file) (stepsLeft file)
+
   -- Of a report that is done nothing is asked but a good tracker.
   all-done : (r : Report) → Good (r .tracker) → GoodReport file (atStage S.Done r)
   all-done r g = record { tracker = g; going = λ h. absurd (true≢false (sym h)) }
 
   -- The step by what the reader found.
   item : (r : Report) → Good (r .tracker) → GoodReading file r → (x : Found) → nextOf file (r .packet) (r .word) (r .left) ≡ x
-      → Moves file (atStage S.Items r) (itemStep file r x)
+      → Moved (atStage S.Items r) (itemStep file r x)
   unfolding restOf stepsLeft recordsFrom lines
   item r g reads (F.Packet p words) e =
       let given = packet-given (sound file (reads .checked)) (reads .place) e in
       record {
         good = record { tracker = good-packet (r .tracker) p g; going = λ _. record { checked = reads .checked; place = given .next; count = reads .count } };
-        rest = rw (given .comes);
-        steps = omega (arith, ap length (given .comes));
+        front = rw (given .comes);
+        less = λ _. omega (arith, ap length (given .comes));
       }
   item r g reads (F.Word at) e =
       let given = word-given (sound file (reads .checked)) (reads .place) e in
       let kept = good-word (r .tracker) (bytesAt file at) g in
       record {
         good = record { tracker = kept .0; going = λ _. record { checked = reads .checked; place = given .next; count = rw (given .one-on) (omega arith) } };
-        rest = simp (given .comes, lines-append, length-append, append-assoc, add-assoc);
-        steps = omega (arith, ap length (given .comes));
+        front = simp (given .comes, lines-append, length-append, append-assoc, add-assoc);
+        less = λ _. omega (arith, ap length (given .comes));
       }
   item r g reads F.End e =
       let none = end-given (sound file (reads .checked)) (reads .place) e in
-      record { good = all-done r g; rest = rw (none, append-nil, add-zero); steps = omega (arith, ap length none) }
+      record { good = all-done r g; front = rw (none, append-nil, add-zero); less = λ _. omega (arith, ap length none) }
 
   -- The step by the stage: every report is one at its own stage.
-  stage : (s : Stage) (r : Report) → GoodReport file (atStage s r) → Moves file (atStage s r) (stepOf file (atStage s r))
+  stage : (s : Stage) (r : Report) → GoodReport file (atStage s r) → Moved (atStage s r) (stepOf file (atStage s r))
   unfolding restOf stepsLeft stepOf
   stage S.Heading r g =
       let reads = g .going refl in
       record {
         good = record { tracker = g .tracker; going = λ _. record { checked = reads .checked; place = reads .place; count = reads .count } };
-        rest = refl;
-        steps = omega arith;
+        front = refl;
+        less = λ _. omega arith;
       }
   stage S.Items r g = item (atStage S.Items r) (g .tracker) (g .going refl) _ refl
-  stage (S.Refused n) r g = record { good = all-done r (g .tracker); rest = append-nil (refusedLine n); steps = refl }
-  stage S.Done r g = record { good = g; rest = refl; steps = refl }
+  stage (S.Refused n) r g = record { good = all-done r (g .tracker); front = append-nil (refusedLine n); less = λ _. omega arith }
+  stage S.Done r g = record { good = g; front = refl; less = λ e. absurd (true≢false e) }
 
-  pub step : (r : Report) → GoodReport file r → Moves file r (stepOf file r)
-  step r g = stage (r .stage) r g
-
-  pub step-less : (r : Report) → GoodReport file r → isDone (r .stage) ≡ false → stepsLeft file (stepOf file r .report) < stepsLeft file r
-  step-less r g e = omega (arith, simp e at (step r g .steps))
-
-  -- A report that is done has nothing to print.
-  pub done-rest : (r : Report) → isDone (r .stage) ≡ true → restOf file r ≡ []
+  pub laws : Laws (printer file) (restOf file) (stepsLeft file)
   unfolding restOf
-  done-rest r e = rw (is-done (r .stage) e)
+  laws = record { moves = λ r g. stage (r .stage) r g; none = λ r e. rw (is-done (r .stage) e) }

@@ -2,6 +2,5 @@ pub mod Lines
 pub mod Steps
 pub mod Keeping
 pub mod Printing
-pub mod Unique
 pub mod Refused
 pub mod WholeText

@@ -26,10 +26,10 @@ use Rattle.ascii.specs.Text.{Puts}
 use Rattle.report.specs.declared.Stage.{Stage}
 use Rattle.report.specs.declared.Stage.the-variants as S
 use Rattle.report.specs.declared.Report.{Report}
-use Rattle.report.specs.declared.Filled.{Filled}
+use Rattle.ascii.specs.Steps.{Prints}
 use Rattle.report.specs.Text.{lines, recordsAt}
 use Rattle.report.specs.File.{settings}
-use Rattle.report.specs.Report.{firstStage, startReport, reading, recordsTold, itemStep, stageStep, stepOf, Prints, GoodReading, GoodWord, GoodReport}
+use Rattle.report.specs.Report.{firstStage, startReport, reading, recordsTold, itemStep, stageStep, stepOf, GoodReading, GoodWord, GoodReport}
 use Rattle.report.proofs.Lines.{records-written}
 
 -- The start.
@@ -90,14 +90,14 @@ pub word-printed : (file : List ℕ) (r : Report) (at : ℕ) {zeros after d d′
     → on ≡ pastWord file (r .word)
     → given ≡ recordsTold (a .told)
     → Puts (lines (recordsAt given after)) d n d′
-    → Prints (itemStep file r (F.Word at)) d (record { report = record { stage = S.Items; tracker = a .tracker; packet = r .packet; word = on; left = r .left - 1; count = r .count + given }; n = n }) d′
+    → Prints (itemStep file r (F.Word at)) d (record { stage = S.Items; tracker = a .tracker; packet = r .packet; word = on; left = r .left - 1; count = r .count + given }) n d′
 word-printed file r at {after = after} {given = given} w z o g p =
     let t = r .tracker in
     let bytes = bytesAt file at in
     let stand : recordsAt given after ≡ recordsIn (wordCall t bytes 6) = rw g (told-stand t bytes w z) in
     record {
-      answer = rw (p .count, stand, o, g, told-is t bytes w z, answered t bytes w z);
-      buffer-is = p .buffer-is ∙ rw stand;
+      next-is = rw (o, g, told-is t bytes w z, answered t bytes w z);
+      puts = rw stand at p;
     }
 
 -- The part of a file that a word stands in.
@@ -120,17 +120,13 @@ module _ {file : List ℕ} {r : Report} (g : GoodReading file r) where
         count-low = omega arith;
       }
 
-pub found : (file : List ℕ) (r : Report) {d d′ : List ℕ} {x y : Found} {a : Filled} → x ≡ nextOf file (r .packet) (r .word) (r .left) → x ≡ y
-    → Prints (itemStep file r y) d a d′
-    → Prints (itemStep file r (nextOf file (r .packet) (r .word) (r .left))) d a d′
+pub found : (file : List ℕ) (r : Report) {d d′ : List ℕ} {x y : Found} {next : Report} {n : ℕ} → x ≡ nextOf file (r .packet) (r .word) (r .left) → x ≡ y
+    → Prints (itemStep file r y) d next n d′
+    → Prints (itemStep file r (nextOf file (r .packet) (r .word) (r .left))) d next n d′
 found file r e q s = rw (← e, q) s
 
--- A text was put, and the report goes on from another stage.
-pub went-on : {text d d′ : List ℕ} {after next : Report} {n : ℕ} → next ≡ after → Puts text d n d′
-    → Prints (record { report = after; text = text }) d (record { report = next; n = n }) d′
-went-on p q = record { answer = λ i. record { report = p i; n = q .count i }; buffer-is = q .buffer-is }
-
 -- The step by the stage.
-pub staged : (file : List ℕ) (r : Report) {d d′ : List ℕ} {s : Stage} {a : Filled} → r .stage ≡ s → Prints (stageStep file r s) d a d′ → Prints (stepOf file r) d a d′
+pub staged : (file : List ℕ) (r : Report) {next : Report} {d d′ : List ℕ} {n : ℕ} {s : Stage} → r .stage ≡ s → Prints (stageStep file r s) d next n d′
+    → Prints (stepOf file r) d next n d′
 unfolding stepOf
-staged file r {d} {d′} {a = a} e p = subst (λ (z : Stage). Prints (stageStep file r z) d a d′) (sym e) p
+staged file r {next} {d} {d′} {n} e p = subst (λ (z : Stage). Prints (stageStep file r z) d next n d′) (sym e) p

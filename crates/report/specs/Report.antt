@@ -1,13 +1,13 @@
--- A report of a file on the way: what each step prints, and what the steps print together.
+-- A report of a file on the way: what each step prints.
 -- Assumes nothing.
-use Prim.Native.Nat.{ℕ, suc, _+_, _-_, _*_, _^_, _≤_}
+use Prim.Native.Nat.{ℕ, _+_, _-_, _*_, _^_, _≤_}
 use mathlib.Core.Path.{_≡_}
 use mathlib.Core.Bool.{Bool, true, false, cond}
-use mathlib.Core.List.{List, [], _++_}
-use lib.Dec.{ltb, eqb}
-use lib.ListN.{length, take}
+use mathlib.Core.List.{List, []}
+use lib.Dec.{eqb}
+use lib.ListN.{length}
 use Rattle.words.specs.Word.{wordBytes}
-use Rattle.records.specs.Records.{mostRecords, over}
+use Rattle.records.specs.Records.{mostRecords}
 use Rattle.cdp_running.specs.declared.Told.{Told}
 use Rattle.cdp_running.specs.declared.Told.the-variants.{Taken, Refused}
 use Rattle.cdp_running.specs.Tracker.{Good, startOf}
@@ -19,7 +19,7 @@ use Rattle.bench_file.specs.Reader.{pastPacket, pastWord, nextOf, Place}
 use Rattle.report.specs.declared.Stage.{Stage}
 use Rattle.report.specs.declared.Stage.the-variants as S
 use Rattle.report.specs.declared.Report.{Report}
-use Rattle.report.specs.declared.Filled.{Filled}
+use Rattle.ascii.specs.Steps.{Printed, nothing, Printer}
 use Rattle.report.specs.Text.{heading, lines, recordsLine, refusedLine, mostPrinted}
 use Rattle.report.specs.File.{settings, trackerAfter, recordsAfter}
 
@@ -35,23 +35,15 @@ startReport file =
 abbrev pub toCome : List ℕ → Report → List Item
 toCome file r = itemsFrom file (r .packet) (r .word) (r .left)
 
--- A text, and the report after it.
-pub record Printed : Type 0 where
-  pub report : Report
-  pub text : List ℕ
-
-abbrev pub nothing : Report → Printed
-nothing r = record { report = r; text = [] }
-
 abbrev pub atStage : Stage → Report → Report
 atStage stage r =
     record { stage = stage; tracker = r .tracker; packet = r .packet; word = r .word; left = r .left; count = r .count }
 
 -- The reader goes on past a packet or a word. A packet prints nothing. A word prints the lines of its records. At the end stands the number of all records.
-abbrev pub itemStep : List ℕ → Report → Found → Printed
+abbrev pub itemStep : List ℕ → Report → Found → Printed Report
 itemStep file r (F.Packet p words) =
     record {
-      report =
+      next =
           record {
             stage = S.Items;
             tracker = trackerAfter (r .tracker) (packet p words);
@@ -65,7 +57,7 @@ itemStep file r (F.Packet p words) =
 itemStep file r (F.Word at) =
     let records = recordsAfter (r .tracker) (word at (bytesAt file at)) in
     record {
-      report =
+      next =
           record {
             stage = S.Items;
             tracker = trackerAfter (r .tracker) (word at (bytesAt file at));
@@ -76,30 +68,16 @@ itemStep file r (F.Word at) =
           };
       text = lines records;
     }
-itemStep file r F.End = record { report = atStage S.Done r; text = recordsLine (r .count) }
+itemStep file r F.End = record { next = atStage S.Done r; text = recordsLine (r .count) }
 
-abbrev pub stageStep : List ℕ → Report → Stage → Printed
-stageStep file r S.Heading = record { report = atStage S.Items r; text = heading }
+abbrev pub stageStep : List ℕ → Report → Stage → Printed Report
+stageStep file r S.Heading = record { next = atStage S.Items r; text = heading }
 stageStep file r S.Items = itemStep file r (nextOf file (r .packet) (r .word) (r .left))
-stageStep file r (S.Refused n) = record { report = atStage S.Done r; text = refusedLine n }
+stageStep file r (S.Refused n) = record { next = atStage S.Done r; text = refusedLine n }
 stageStep file r S.Done = nothing r
 
-unfoldable pub stepOf : List ℕ → Report → Printed
+unfoldable pub stepOf : List ℕ → Report → Printed Report
 stepOf file r = stageStep file r (r .stage)
-
--- In too little room for a word's lines nothing is printed, and the report stays.
-abbrev pub stepIn : List ℕ → Report → ℕ → Printed
-stepIn file r room = cond (ltb room mostPrinted) (nothing r) (stepOf file r)
-
--- How many steps are left.
-abbrev pub stepsAt : ℕ → Stage → ℕ
-stepsAt n S.Heading = n + 2
-stepsAt n S.Items = n + 1
-stepsAt n (S.Refused m) = 1
-stepsAt n S.Done = 0
-
-unfoldable pub stepsLeft : List ℕ → Report → ℕ
-stepsLeft file r = stepsAt (length (toCome file r)) (r .stage)
 
 -- All is printed.
 abbrev pub isDone : Stage → Bool
@@ -132,26 +110,9 @@ pub record GoodWord (file : List ℕ) (r : Report) (at : ℕ) : Type 0 where
   pub one-left : 1 ≤ r .left
   pub count-low : r .count ≤ 2 ^ 32
 
--- What is told of a text: the report after it, and how many bytes stand at the front of the buffer, whose rest stays.
-abbrev pub filledOf : Printed → Filled
-filledOf p = record { report = p .report; n = length (p .text) }
-
-pub record Prints (p : Printed) (buffer : List ℕ) (r : Filled) (after : List ℕ) : Type 0 where
-  pub answer : r ≡ filledOf p
-  pub buffer-is : after ≡ over (p .text) buffer
-
--- What a step gives.
-pub record StepPost (file : List ℕ) (report : Report) (buffer : List ℕ) (r : Filled) (after : List ℕ) : Type 0 where
-  pub prints : Prints (stepIn file report (length buffer)) buffer r after
-  pub good : GoodReport file (r .report)
-
--- Steps one after the other, each with a buffer that has room for a word's lines, until all is printed: how many they are, and what stands at the front
--- of the buffers.
-pub data Steps (file : List ℕ) : Report → ℕ → List ℕ → Type 0 where
-  done : {r : Report} → isDone (r .stage) ≡ true → Steps file r 0 []
-  step : {r : Report} {buffer after : List ℕ} {p : Filled} {n : ℕ} {rest : List ℕ} → isDone (r .stage) ≡ false → mostPrinted ≤ length buffer
-      → StepPost file r buffer p after → Steps file (p .report) n rest
-      → Steps file r (suc n) (take (p .n) after ++ rest)
+-- A report prints by steps.
+abbrev pub printer : List ℕ → Printer Report
+printer file = record { stepOf = stepOf file; most = mostPrinted; isDone = λ r. isDone (r .stage); Good = GoodReport file }
 
 -- How many records a word call told.
 abbrev pub recordsTold : Told → ℕ

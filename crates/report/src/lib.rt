@@ -6,7 +6,8 @@ ghost use Rattle.cdp_running.specs.Tracker.{Good};
 ghost use Rattle.bench_file.specs.Reader.{nextOf};
 ghost use Rattle.bench_file.specs.declared.Found.the-variants as F;
 ghost use Rattle.report.specs.Text.{mostPrinted};
-ghost use Rattle.report.specs.Report.{startReport, firstStage, atStage, itemStep, stepOf, isDone, recordsTold, filledOf, GoodWord, GoodReading, GoodReport, Prints, StepPost};
+ghost use Rattle.ascii.specs.Steps.{Prints, StepPost};
+ghost use Rattle.report.specs.Report.{startReport, firstStage, atStage, itemStep, stepOf, isDone, recordsTold, GoodWord, GoodReading, GoodReport, printer};
 
 mod text;
 
@@ -100,23 +101,20 @@ fn records_told(told: Told) -> u64
     }
 }
 
-// A packet: nothing is printed, and its words come next.
-fn packet_step(r: Report, file: &[u8], packet: Packet, words: u16) -> Filled
+// A packet: its words come next.
+fn packet_step(r: Report, file: &[u8], packet: Packet, words: u16) -> Report
     requires { ⌜ Good (r .tracker) ⌝ }
-    ensures { λ p. ⌜ p ≡ filledOf (itemStep (now (file .entry)) r (F.Packet packet words)) ⌝ }
+    ensures { λ r′. ⌜ r′ ≡ itemStep (now (file .entry)) r (F.Packet packet words) .next ⌝ }
 {
     let answer = r.tracker.packet(packet);
     let next = answer.tracker;
-    Filled {
-        report: Report {
-            stage: Stage::Items,
-            tracker: next,
-            packet: bench_file::packet_after(file, r.packet, r.word),
-            word: r.word,
-            left: words as usize,
-            count: r.count,
-        },
-        n: 0,
+    Report {
+        stage: Stage::Items,
+        tracker: next,
+        packet: bench_file::packet_after(file, r.packet, r.word),
+        word: r.word,
+        left: words as usize,
+        count: r.count,
     }
 }
 
@@ -125,7 +123,7 @@ fn word_step(r: Report, file: &[u8], at: usize, out: &mut [u8]) -> Filled
     requires { ⌜ Good (r .tracker) ⌝ }
     requires { ⌜ GoodWord (now file) r at ⌝ }
     requires { ⌜ mostPrinted ≤ length (now out) ⌝ }
-    ensures { λ p. ⌜ Prints (itemStep (now (file .entry)) r (F.Word at)) (now (out .entry)) p (now (out .exit)) ⌝ }
+    ensures { λ p. ⌜ Prints (itemStep (now (file .entry)) r (F.Word at)) (now (out .entry)) (p .report) (p .n) (now (out .exit)) ⌝ }
 {
     let tracker = r.tracker;
     let end = at + Word::SIZE;
@@ -153,10 +151,13 @@ fn item_step(r: Report, file: &[u8], out: &mut [u8]) -> Filled
     requires { ⌜ Good (r .tracker) ⌝ }
     requires { ⌜ GoodReading (now file) r ⌝ }
     requires { ⌜ mostPrinted ≤ length (now out) ⌝ }
-    ensures { λ p. ⌜ Prints (itemStep (now (file .entry)) r (nextOf (now (file .entry)) (r .packet) (r .word) (r .left))) (now (out .entry)) p (now (out .exit)) ⌝ }
+    ensures { λ p. ⌜ Prints (itemStep (now (file .entry)) r (nextOf (now (file .entry)) (r .packet) (r .word) (r .left))) (now (out .entry)) (p .report) (p .n) (now (out .exit)) ⌝ }
 {
     match bench_file::next(file, r.packet, r.word, r.left) {
-        Found::Packet { packet, words } => packet_step(r, file, packet, words),
+        Found::Packet { packet, words } => Filled {
+            report: packet_step(r, file, packet, words),
+            n: 0,
+        },
         Found::Word { at } => word_step(r, file, at, out),
         Found::End => Filled {
             n: text::put_count(out, b"records ", r.count),
@@ -169,7 +170,7 @@ fn item_step(r: Report, file: &[u8], out: &mut [u8]) -> Filled
 fn stage_step(r: Report, file: &[u8], out: &mut [u8]) -> Filled
     requires { ⌜ GoodReport (now file) r ⌝ }
     requires { ⌜ mostPrinted ≤ length (now out) ⌝ }
-    ensures { λ p. ⌜ Prints (stepOf (now (file .entry)) r) (now (out .entry)) p (now (out .exit)) ⌝ }
+    ensures { λ p. ⌜ Prints (stepOf (now (file .entry)) r) (now (out .entry)) (p .report) (p .n) (now (out .exit)) ⌝ }
 {
     let stage = r.stage;
     match stage {
@@ -219,7 +220,7 @@ impl Report {
     // One step: its text at the front of out, whose rest stays. A buffer of at least MOST bytes brings the report on.
     pub fn step(self, file: &[u8], out: &mut [u8]) -> Filled
         requires { ⌜ GoodReport (now file) self ⌝ }
-        ensures { λ p. ⌜ StepPost (now (file .entry)) self (now (out .entry)) p (now (out .exit)) ⌝ }
+        ensures { λ p. ⌜ StepPost (printer (now (file .entry))) self (now (out .entry)) (p .report) (p .n) (now (out .exit)) ⌝ }
     {
         if out.len() < MOST {
             return Filled { report: self, n: 0 };

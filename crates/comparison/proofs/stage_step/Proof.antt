@@ -3,7 +3,7 @@
 use denote.Ref.{now}
 use mathlib.Core.Path.{refl, ap}
 use native.Mathlib.Omega.{arith}
-use Rattle.ascii.proofs.Putting.{in-room}
+use Rattle.ascii.proofs.Putting.{none-put, in-room}
 use Rattle.comparison.specs.Text.{lastLine, refusedLine}
 use Rattle.comparison.specs.Listing.{isDone}
 use Rattle.comparison.proofs.Keeping.{count-low}
@@ -51,14 +51,14 @@ returns-6 c = staged (c .before .before .before .before .before .before .before 
 
 returns-7 : tie.Need-returns-7
 unfolding lastLine
-returns-7 c = let p = in-room _ _ (omega (arith, c .before .before .before .before .before .before .before .before .before .before .before .before .pre .1)) (c .before .before .before .put-line .ensures) in staged (c .before .before .before .before .before .before .before .before .before .before .before .before .pre .0) (c .before .before .before .before .before .before .before .enum-told7 .given .1) (record { answer = λ i. record { listing = c .done .ensures i; n = p .count i }; buffer-is = p .buffer-is })
+returns-7 c = let p = in-room _ _ (omega (arith, c .before .before .before .before .before .before .before .before .before .before .before .before .pre .1)) (c .before .before .before .put-line .ensures) in staged (c .before .before .before .before .before .before .before .before .before .before .before .before .pre .0) (c .before .before .before .before .before .before .before .enum-told7 .given .1) (record { next-is = c .done .ensures; puts = p })
 
 returns-8 : tie.Need-returns-8
 unfolding refusedLine
-returns-8 c = let p = in-room _ _ (omega (arith, c .before .before .before .before .before .before .before .before .before .before .before .before .before .pre .1)) (c .before .before .before .put-line2 .ensures) in staged (c .before .before .before .before .before .before .before .before .before .before .before .before .before .pre .0) (c .before .before .before .before .before .before .before .before .stage .given .1) (record { answer = λ i. record { listing = c .done2 .ensures i; n = p .count i }; buffer-is = p .buffer-is })
+returns-8 c = let p = in-room _ _ (omega (arith, c .before .before .before .before .before .before .before .before .before .before .before .before .before .pre .1)) (c .before .before .before .put-line2 .ensures) in staged (c .before .before .before .before .before .before .before .before .before .before .before .before .before .pre .0) (c .before .before .before .before .before .before .before .before .stage .given .1) (record { next-is = c .done2 .ensures; puts = p })
 
 returns-9 : tie.Need-returns-9
-returns-9 c = staged (c .before .before .before .before .before .pre .0) (c .enum-told8 .given .1) (record { answer = refl; buffer-is = refl })
+returns-9 c = staged (c .before .before .before .before .before .pre .0) (c .enum-told8 .given .1) (record { next-is = refl; puts = none-put _ })
 
 pub stage-step-spec : {M : Type 1} → statement M
 stage-step-spec = tie.close (tie.spec (λ c. search needs) packets-step-requires (λ c. search needs) words-step-requires (λ c. search needs) counts-step-requires (λ c. search needs) packet-step-requires (λ c. search needs) fields-step-requires (λ c. search needs) bytes-step-requires (λ c. search needs) (λ c. search needs) (λ c. search needs) (λ c. search needs) (λ c. search needs) (λ c. search needs) (λ c. search needs) (λ c. search needs) (λ c. search needs) (λ c. search needs) (λ c. search needs) (λ c. search needs) (λ c. search needs) (λ c. search needs) returns (λ c. search needs) returns-2 (λ c. search needs) returns-3 returns-4 (λ c. search needs) returns-5 (λ c. search needs) returns-6 (λ c. search needs) returns-7 (λ c. search needs) returns-8 returns-9)

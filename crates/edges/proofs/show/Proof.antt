@@ -7,7 +7,8 @@ use lib.ListN.{length}
 use native.Mathlib.Omega.{arith}
 use Rattle.io.proofs.Counting.{front}
 use Rattle.report.specs.Text.{mostPrinted}
-use Rattle.report.specs.Report.{GoodReport, stepsLeft}
+use Rattle.report.specs.Report.{GoodReport}
+use Rattle.report.proofs.Keeping.{stepsLeft}
 use Rattle.report.proofs.Printing.{step-fits, step-onward}
 use Rattle.edges.proofs.show.Statement.{statement}
 use Rattle.edges.proofs.show.Tie as tie

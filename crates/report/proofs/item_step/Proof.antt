@@ -2,9 +2,9 @@
 -- Assumes nothing.
 use borrow.Author.Needs.{needs}
 use denote.Ref.{now}
-use mathlib.Core.Path.{refl}
+use Rattle.ascii.proofs.Putting.{none-put}
 use Rattle.report.specs.Text.{recordsLine}
-use Rattle.report.proofs.Steps.{good-word-at, found, went-on}
+use Rattle.report.proofs.Steps.{good-word-at, found}
 use Rattle.report.proofs.item_step.Statement.{statement}
 use Rattle.report.proofs.item_step.Tie as tie
 
@@ -12,14 +12,14 @@ word-step-requires : tie.Need-word-step-requires
 word-step-requires c κs = (c .before .before .before .before .before .before .before .pre .0, (good-word-at (c .before .before .before .before .before .before .before .pre .1 .0) (c .before .before .before .before .next .ensures .answer) (c .before .before .at .given .1), c .before .before .before .before .before .before .before .pre .1 .1))
 
 returns : tie.Need-returns
-returns c = found (now (c .before .before .before .before .before .before .before .args .file)) (c .before .before .before .before .before .before .before .args .r) (c .before .before .before .before .next .ensures .answer) (c .before .before .packet .given .1) (record { answer = c .packet-step .ensures; buffer-is = refl })
+returns c = found (now (c .before .before .before .before .before .before .before .args .file)) (c .before .before .before .before .before .before .before .args .r) (c .before .before .before .before .next .ensures .answer) (c .before .before .packet .given .1) (record { next-is = c .packet-step .ensures; puts = none-put _ })
 
 returns-2 : tie.Need-returns-2
 returns-2 c = found (now (c .before .before .before .before .before .before .before .before .before .before .args .file)) (c .before .before .before .before .before .before .before .before .before .before .args .r) (c .before .before .before .before .before .before .before .next .ensures .answer) (c .before .before .before .before .before .at .given .1) (c .before .before .word-step .ensures)
 
 returns-3 : tie.Need-returns-3
 unfolding recordsLine
-returns-3 c = found (now (c .before .before .before .before .before .before .before .before .before .before .before .args .file)) (c .before .before .before .before .before .before .before .before .before .before .before .args .r) (c .before .before .before .before .before .before .before .before .next .ensures .answer) (c .before .before .before .before .before .before .enum-told .given .1) (went-on (c .at-stage .ensures) (c .before .before .before .put-count .ensures))
+returns-3 c = found (now (c .before .before .before .before .before .before .before .before .before .before .before .args .file)) (c .before .before .before .before .before .before .before .before .before .before .before .args .r) (c .before .before .before .before .before .before .before .before .next .ensures .answer) (c .before .before .before .before .before .before .enum-told .given .1) (record { next-is = c .at-stage .ensures; puts = c .before .before .before .put-count .ensures })
 
 pub item-step-spec : {M : Type 1} → statement M
 item-step-spec = tie.close (tie.spec (λ c. search needs) (λ c. search needs) (λ c. search needs) (λ c. search needs) word-step-requires (λ c. search needs) (λ c. search needs) (λ c. search needs) (λ c. search needs) returns (λ c. search needs) returns-2 (λ c. search needs) returns-3)

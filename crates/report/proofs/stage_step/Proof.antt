@@ -4,10 +4,10 @@ use borrow.Author.Needs.{needs}
 use denote.Ref.{now}
 use mathlib.Core.Path.{refl, ap}
 use native.Mathlib.Omega.{arith}
-use Rattle.ascii.proofs.Putting.{in-room}
+use Rattle.ascii.proofs.Putting.{none-put, in-room}
 use Rattle.report.specs.Text.{heading, refusedLine}
 use Rattle.report.specs.Report.{reading}
-use Rattle.report.proofs.Steps.{staged, went-on}
+use Rattle.report.proofs.Steps.{staged}
 use Rattle.report.proofs.stage_step.Statement.{statement}
 use Rattle.report.proofs.stage_step.Tie as tie
 
@@ -16,17 +16,17 @@ item-step-requires c κs = (c .before .before .before .before .before .pre .0 .t
 
 returns : tie.Need-returns
 unfolding heading
-returns c = staged (now (c .before .before .before .before .before .before .before .before .before .before .args .file)) (c .before .before .before .before .before .before .before .before .before .before .args .r) (c .before .before .before .before .before .before .enum-told .given .1) (went-on (c .at-stage .ensures) (in-room 22 heading (omega (arith, c .before .before .before .before .before .before .before .before .before .before .pre .1)) (c .before .before .before .put .ensures .0)))
+returns c = staged (now (c .before .before .before .before .before .before .before .before .before .before .args .file)) (c .before .before .before .before .before .before .before .before .before .before .args .r) (c .before .before .before .before .before .before .enum-told .given .1) (record { next-is = c .at-stage .ensures; puts = in-room 22 heading (omega (arith, c .before .before .before .before .before .before .before .before .before .before .pre .1)) (c .before .before .before .put .ensures .0) })
 
 returns-2 : tie.Need-returns-2
 returns-2 c = staged (now (c .before .before .before .before .before .before .before .before .args .file)) (c .before .before .before .before .before .before .before .before .args .r) (c .before .before .before .before .enum-told2 .given .1) (c .before .before .item-step .ensures)
 
 returns-3 : tie.Need-returns-3
 unfolding refusedLine
-returns-3 c = staged (now (c .before .before .before .before .before .before .before .before .before .before .before .args .file)) (c .before .before .before .before .before .before .before .before .before .before .before .args .r) (c .before .before .before .before .before .before .before .stage .given .1) (went-on (c .at-stage2 .ensures) (c .before .before .before .put-count .ensures))
+returns-3 c = staged (now (c .before .before .before .before .before .before .before .before .before .before .before .args .file)) (c .before .before .before .before .before .before .before .before .before .before .before .args .r) (c .before .before .before .before .before .before .before .stage .given .1) (record { next-is = c .at-stage2 .ensures; puts = c .before .before .before .put-count .ensures })
 
 returns-4 : tie.Need-returns-4
-returns-4 c = staged (now (c .before .before .before .before .args .file)) (c .before .before .before .before .args .r) (c .enum-told3 .given .1) (record { answer = refl; buffer-is = refl })
+returns-4 c = staged (now (c .before .before .before .before .args .file)) (c .before .before .before .before .args .r) (c .enum-told3 .given .1) (record { next-is = refl; puts = none-put _ })
 
 pub stage-step-spec : {M : Type 1} → statement M
 stage-step-spec = tie.close (tie.spec (λ c. search needs) (λ c. search needs) (λ c. search needs) (λ c. search needs) (λ c. search needs) item-step-requires (λ c. search needs) (λ c. search needs) (λ c. search needs) (λ c. search needs) (λ c. search needs) (λ c. search needs) (λ c. search needs) returns (λ c. search needs) returns-2 (λ c. search needs) returns-3 returns-4)

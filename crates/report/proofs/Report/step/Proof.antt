@@ -2,19 +2,20 @@
 -- Assumes nothing.
 use denote.Ref.{now}
 use native.Mathlib.Omega.{arith}
-use Rattle.report.proofs.Printing.{stepped, no-room}
+use Rattle.ascii.proofs.Steps.{stepped, no-room}
+use Rattle.report.proofs.Keeping.{laws}
 use borrow.Author.Needs.{needs}
 use Rattle.report.proofs.Report.step.Statement.{statement}
 use Rattle.report.proofs.Report.step.Tie as tie
 
 returns : tie.Need-returns
-returns c = no-room (c .before .before .before .pre) (now (c .before .before .before .args .out)) (omega (arith, c .if1 .taken))
+returns c = no-room (laws _) (c .before .before .before .pre) (now (c .before .before .before .args .out)) (omega (arith, c .if1 .taken))
 
 stage-step-requires : tie.Need-stage-step-requires
 stage-step-requires c κs = (c .before .before .before .before .pre, omega (arith, c .before .if1 .left))
 
 returns-2 : tie.Need-returns-2
-returns-2 c = stepped (c .before .before .before .before .before .before .before .pre) (omega (arith, c .before .before .before .before .if1 .left)) (c .before .before .stage-step .ensures)
+returns-2 c = stepped (laws _) (c .before .before .before .before .before .before .before .pre) (omega (arith, c .before .before .before .before .if1 .left)) (c .before .before .stage-step .ensures)
 
 pub step-spec : {M : Type 1} → statement M
 step-spec = tie.close (tie.spec returns stage-step-requires (λ c. search needs) returns-2)
