@@ -1,4 +1,4 @@
--- 01, "Bench file": the whole case, computed from the definitions.
+-- 01, "Bench file": the whole case, from its 90 bytes to its records, answers and printed text, computed from the definitions.
 -- Assumes nothing.
 use Prim.Native.Nat.{ℕ}
 use mathlib.Core.Path.{_≡_, refl}
@@ -6,6 +6,7 @@ use mathlib.Core.Bool.{true, false}
 use mathlib.Core.List.{List, [], _∷_}
 use lib.Count.{ones}
 use Rattle.words.specs.Word.{number, wordOf, bits}
+use Rattle.words.specs.LittleEndian.{numberAt}
 use Rattle.packet.specs.declared.Rule.the-variants as R
 use Rattle.packet.specs.declared.Settings.{Settings}
 use Rattle.packet.specs.declared.Packet.{Packet}
@@ -15,6 +16,11 @@ use Rattle.cdp_running.specs.declared.Tracker.{Tracker}
 use Rattle.cdp_running.specs.Word.{Outcome, recordsOf, takenOf, wordCall, answerOf}
 use Rattle.cdp_running.specs.Answer.{Numbers, numbersOf}
 use Rattle.payload.specs.Payload.{wordsFrom, payloadCall, wordCalls, payloadCalls}
+use Rattle.bench_file.specs.File.{wordsBefore, misfit, firstRefusal, checkOf}
+use Rattle.bench_file.specs.Items.{wordItems, packetItems, items}
+use Rattle.ascii.specs.Text.{ascii, decimalIn, decimal}
+use Rattle.report.specs.Text.{line, lines, heading, recordsLine, refusedLine}
+use Rattle.report.specs.File.{recordsFrom, fileRecords, text}
 use Rattle.cases.specs.WholeCase.{wholeCase, fiveWords}
 
 -- Running checks and frames on, period 198.
@@ -46,3 +52,8 @@ pub whole-answers : told (payloadCalls begun fiveWords 6)
     ≡ tells 1 0 0 0 0 1 ∷ tells 3 0 1 0 0 0 ∷ tells 6 1 0 0 0 0 ∷ tells 8 0 2 74 94 0 ∷ tells 4 2 1 0 0 0 ∷ []
 unfolding begun settings packet wholeCase tells told number wordOf bits given packetCall recordsOf takenOf wordCall wordCalls payloadCalls ones
 whole-answers = refl
+
+-- The same as benchcheck prints it.
+pub whole-text : text wholeCase ≡ ascii "pos code first second\n84 1072 1 1\n104 440 3564 198\n104 1045 3564 198\nrecords 3\n"
+unfolding wholeCase number wordOf bits given packetCall recordsOf takenOf wordCall numberAt wordsBefore misfit firstRefusal checkOf wordItems packetItems items decimalIn decimal line lines heading recordsLine refusedLine recordsFrom fileRecords text
+whole-text = refl

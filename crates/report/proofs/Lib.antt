@@ -3,4 +3,3 @@ pub mod Steps
 pub mod Keeping
 pub mod Printing
 pub mod Refused
-pub mod WholeText
