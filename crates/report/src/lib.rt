@@ -101,7 +101,7 @@ fn records_told(told: Told) -> u64
     }
 }
 
-// A packet: its words come next.
+// A packet: nothing is printed, and its words come next.
 fn packet_step(r: Report, file: &[u8], packet: Packet, words: u16) -> Report
     requires { ⌜ Good (r .tracker) ⌝ }
     ensures { λ r′. ⌜ r′ ≡ itemStep (now (file .entry)) r (F.Packet packet words) .next ⌝ }
