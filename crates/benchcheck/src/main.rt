@@ -7,7 +7,7 @@ use report::Report;
 
 // Prints the report of a file, up to a write that fails.
 fn print(file: &[u8]) {
-    let mut out = [0u8; report::MOST];
+    let mut out = [0u8; report::MOST_PRINTED];
     let mut report = Report::start(file);
     while !report.finished() {
         let filled = report.step(file, &mut out);

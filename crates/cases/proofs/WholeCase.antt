@@ -10,7 +10,7 @@ use Rattle.words.specs.LittleEndian.{numberAt}
 use Rattle.packet.specs.declared.Rule.the-variants as R
 use Rattle.packet.specs.declared.Settings.{Settings}
 use Rattle.packet.specs.declared.Packet.{Packet}
-use Rattle.records.specs.Records.{flat, given}
+use Rattle.records.specs.Records.{flat, given, mostRecords}
 use Rattle.cdp_running.specs.Tracker.{startOf, packetCall}
 use Rattle.cdp_running.specs.declared.Tracker.{Tracker}
 use Rattle.cdp_running.specs.Word.{Outcome, recordsOf, takenOf, wordCall, answerOf}
@@ -34,7 +34,7 @@ packet = record { position = 0; orbit = 7; trigger = 0x10; bc = 0x0DEC; page = 0
 pub begun : Tracker
 begun = packetCall (startOf settings) packet .tracker
 
-pub whole-case : flat (payloadCall begun fiveWords 6 .records)
+pub whole-case : flat (payloadCall begun fiveWords mostRecords .records)
     ≡ 84 ∷ 1072 ∷ 1 ∷ 1 ∷ 104 ∷ 440 ∷ 3564 ∷ 198 ∷ 104 ∷ 1045 ∷ 3564 ∷ 198 ∷ []
 unfolding begun settings packet wholeCase number wordOf bits flat given packetCall recordsOf takenOf wordCall wordsFrom payloadCall
 whole-case = refl
@@ -48,7 +48,7 @@ pub told : List Outcome → List Numbers
 told [] = []
 told (o ∷ os) = numbersOf (answerOf begun o .told) ∷ told os
 
-pub whole-answers : told (payloadCalls begun fiveWords 6)
+pub whole-answers : told (payloadCalls begun fiveWords mostRecords)
     ≡ tells 1 0 0 0 0 1 ∷ tells 3 0 1 0 0 0 ∷ tells 6 1 0 0 0 0 ∷ tells 8 0 2 74 94 0 ∷ tells 4 2 1 0 0 0 ∷ []
 unfolding begun settings packet wholeCase tells told number wordOf bits given packetCall recordsOf takenOf wordCall wordCalls payloadCalls ones
 whole-answers = refl

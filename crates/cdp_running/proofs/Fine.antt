@@ -12,7 +12,7 @@ use Rattle.packet.proofs.Places.{position-most}
 use Rattle.payload_fsm.specs.declared.ItsPayloadWord.{ItsPayloadWord}
 use Rattle.payload_fsm.specs.declared.ItsPayloadWord.the-variants as K
 use Rattle.records.specs.declared.Row.{Row}
-use Rattle.records.specs.Records.{count, Each}
+use Rattle.records.specs.Records.{count, Each, mostRecords}
 use Rattle.records.proofs.Given.{counted, given-each}
 use Rattle.cdp_running.specs.declared.Tracker.{Tracker}
 use Rattle.cdp_running.specs.Tracker.{Good}
@@ -28,7 +28,7 @@ count-low (row ∷ rows) = at (row .on) (count-low rows)
     at false h = omega arith
 
 -- Rows by kind: at most six.
-six : (kind : ItsPayloadWord) (guessed : Bool) (t : Tracker) (w : Word) → length (rowsAs kind guessed t w) ≤ 6
+six : (kind : ItsPayloadWord) (guessed : Bool) (t : Tracker) (w : Word) → length (rowsAs kind guessed t w) ≤ mostRecords
 six K.Ihw guessed t w = omega arith
 six K.IhwContinuation guessed t w = omega arith
 six K.Tdh guessed t w = omega arith
@@ -41,9 +41,9 @@ six K.Ddw0 guessed t w = omega arith
 
 module _ (t : Tracker) (w : Word) where
   -- "One word gives at most six".
-  pub at-most-six : length (recordsOf t w) ≤ 6
+  pub few-records : length (recordsOf t w) ≤ mostRecords
   unfolding recordsOf
-  at-most-six =
+  few-records =
       let a = takenAs t w in
       let rows = rowsOf t a w in
       omega (arith, counted (positionNow t) rows, count-low rows, six (a .word) (a .guessed) t w)

@@ -20,7 +20,7 @@ use packet::Settings;
 use payload_fsm::Advanced;
 use payload_fsm::ItsPayloadFsmContinuous;
 use payload_fsm::ItsPayloadWord;
-use records::MOST;
+use records::MOST_RECORDS;
 use records::Row;
 use records::Written;
 use stored::Frame;
@@ -71,7 +71,7 @@ pub struct PacketAnswer {
 }
 
 // The rows of a word, by what it was taken as.
-fn rows_of(t: Tracker, a: Advanced, word: Word) -> [Row; MOST]
+fn rows_of(t: Tracker, a: Advanced, word: Word) -> [Row; MOST_RECORDS]
     ensures { λ r. ⌜ r ≡ padded (rowsOf t a word) ⌝ }
 {
     let kind = a.word;

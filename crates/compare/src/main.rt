@@ -27,7 +27,7 @@ fn say_unread(name: &[u8]) {
 
 // Prints the listing of two files, up to a write that fails.
 fn print(a: &[u8], b: &[u8]) {
-    let mut out = [0u8; comparison::MOST];
+    let mut out = [0u8; comparison::MOST_PRINTED];
     let mut listing = Listing::start(a, b);
     while !listing.finished() {
         let filled = listing.step(a, b, &mut out);

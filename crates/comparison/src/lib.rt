@@ -23,7 +23,7 @@ use words::Word;
 pub const MOST_BYTES: usize = 28000;
 
 // The most bytes that a step prints: the line of a byte, with five numbers of 20 digits.
-pub const MOST: usize = 4 + ascii::MOST_NUMBER * 5 + 1;
+pub const MOST_PRINTED: usize = 4 + ascii::MOST_NUMBER * 5 + 1;
 
 // The fields of a packet beside its word count.
 const FIELDS: usize = 7;
@@ -506,12 +506,12 @@ impl Listing {
         is_done(stage)
     }
 
-    // One step: at most one line, at the front of out, whose rest stays. A buffer of at least MOST bytes brings the listing on.
+    // One step: at most one line, at the front of out, whose rest stays. A buffer of at least MOST_PRINTED bytes brings the listing on.
     pub fn step(self, a: &[u8], b: &[u8], out: &mut [u8]) -> Filled
         requires { ⌜ Good (now a) (now b) self ⌝ }
         ensures { λ p. ⌜ StepPost (printer (now (a .entry)) (now (b .entry))) self (now (out .entry)) (p .listing) (p .n) (now (out .exit)) ⌝ }
     {
-        if out.len() < MOST {
+        if out.len() < MOST_PRINTED {
             return Filled {
                 listing: self,
                 n: 0,

@@ -7,7 +7,11 @@ use libc::STDOUT_FILENO;
 use packet::Packet;
 use packet::Rule;
 use packet::Settings;
+use records::RECORD_WIDTH;
 use report::Report;
+
+// The most numbers that the records of a word have.
+const MOST_NUMBERS: usize = records::MOST_RECORDS * RECORD_WIDTH;
 
 // How many files there are.
 const FILES: u8 = 64;
@@ -22,7 +26,7 @@ fn number(n: u64) {
 
 // The report of a file.
 fn show(file: &[u8]) {
-    let mut out = [0u8; report::MOST];
+    let mut out = [0u8; report::MOST_PRINTED];
     let mut report = Report::start(file);
     while !report.finished() {
         let filled = report.step(file, &mut out);
@@ -105,7 +109,7 @@ fn refusal(told: Told) -> u64 {
 // "4,096th word accepted, 4,097th refused 3": data words in one packet, up to a refusal.
 fn show_full() {
     let mut t = packet_taken(true, 198, 0);
-    let mut out = [0u64; 24];
+    let mut out = [0u64; MOST_NUMBERS];
     let mut n: u64 = 0;
     while n < 5000 {
         let answer = t.word(b"\0\0\0\0\0\0\0\0\0\x20", &mut out);
@@ -128,13 +132,13 @@ fn show_full() {
 // "Counting a word refused with 4": an IHW with a reserved bit, first with no room, then with room for its record.
 fn show_room() {
     let t = packet_taken(true, 198, 0);
-    let mut small = [0u64; 3];
+    let mut small = [0u64; RECORD_WIDTH - 1];
     let first = t.word(b"\0\0\0\x10\0\0\0\0\0\xE0", &mut small);
     let told = first.told;
     text(b"refused ");
     number(refusal(told));
     let after = first.tracker;
-    let mut out = [0u64; 4];
+    let mut out = [0u64; RECORD_WIDTH];
     after.word(b"\0\0\0\x10\0\0\0\0\0\xE0", &mut out);
     text(b" then ");
     number(out[0]);
@@ -151,8 +155,8 @@ fn show_room() {
 fn found(out: [u64; 8]) -> u64 {
     if out[1] == 45 {
         out[2]
-    } else if out[5] == 45 {
-        out[6]
+    } else if out[RECORD_WIDTH + 1] == 45 {
+        out[RECORD_WIDTH + 2]
     } else {
         3564
     }
@@ -162,7 +166,7 @@ fn found(out: [u64; 8]) -> u64 {
 fn tdh_taken(period: u32, page: u16) -> Tracker
     ensures { λ r. ⌜ Good r ⌝ }
 {
-    let mut out = [0u64; 8];
+    let mut out = [0u64; 2 * RECORD_WIDTH];
     let begun = packet_taken(true, period, page).word(b"\0\0\0\0\0\0\0\0\0\xE0", &mut out);
     let answer = begun.tracker.word(b"\0\x30\0\0\0\0\0\0\0\xE8", &mut out);
     answer.tracker
@@ -180,7 +184,7 @@ fn show_period() {
         let mut word = [0, 0x30, 0, 0, 0, 0, 0, 0, 0, 0xE8];
         word[2] = (bc % 256) as u8;
         word[3] = (bc / 256) as u8;
-        let mut out = [0u64; 8];
+        let mut out = [0u64; 2 * RECORD_WIDTH];
         let answer = t.word(&word, &mut out);
         let period = found(out);
         if period < 3564 {
@@ -202,7 +206,7 @@ fn show_period() {
 fn code_at_ihw(t: Tracker) -> u64
     requires { ⌜ Good t ⌝ }
 {
-    let mut out = [0u64; 8];
+    let mut out = [0u64; 2 * RECORD_WIDTH];
     t.word(b"\0\0\0\0\0\0\0\0\0\xE0", &mut out);
     out[1]
 }
@@ -231,19 +235,19 @@ fn show_code(code: u64) {
 
 // The codes of a word with an id in DATA_, behind an IHW with lanes 8 and 9.
 fn show_codes(running: bool, id: u8) {
-    let mut before = [0u64; 24];
+    let mut before = [0u64; MOST_NUMBERS];
     let begun = packet_taken(running, 198, 0).word(b"\0\x03\0\0\0\0\0\0\0\xE0", &mut before);
     let ready = begun.tracker.word(b"\0\x10\0\0\0\0\0\0\0\xE8", &mut before);
     let mut word = [0u8; 10];
     word[9] = id;
-    let mut out = [0u64; 24];
+    let mut out = [0u64; MOST_NUMBERS];
     ready.tracker.word(&word, &mut out);
     show_code(out[1]);
-    show_code(out[5]);
-    show_code(out[9]);
-    show_code(out[13]);
-    show_code(out[17]);
-    show_code(out[21]);
+    show_code(out[RECORD_WIDTH + 1]);
+    show_code(out[2 * RECORD_WIDTH + 1]);
+    show_code(out[3 * RECORD_WIDTH + 1]);
+    show_code(out[4 * RECORD_WIDTH + 1]);
+    show_code(out[5 * RECORD_WIDTH + 1]);
 }
 
 // What is said of a lane is said with running checks alone: the codes of an id without them and with them.
@@ -299,18 +303,22 @@ fn show_place(orbit: u32, bc: u32) {
 
 // "Slow scans trigger every third orbit": the records of the second of two internal TDHs.
 fn show_records(rule: u32, set: u32, orbit: u32, bc: u32, next_orbit: u32, next_bc: u32) {
-    let mut out = [0u64; 24];
+    let mut out = [0u64; MOST_NUMBERS];
     let begun = packet_by_rule(true, set, rule_of(rule), 0).word(
         b"\0\0\0\0\0\0\0\0\0\xE0",
         &mut out,
     );
     let earlier = begun.tracker.word(&internal_tdh(orbit, bc), &mut out);
-    let mut told = [0u64; 24];
+    let mut told = [0u64; MOST_NUMBERS];
     earlier
         .tracker
         .word(&internal_tdh(next_orbit, next_bc), &mut told);
     show_record(told[1], told[2], told[3]);
-    show_record(told[5], told[6], told[7]);
+    show_record(
+        told[RECORD_WIDTH + 1],
+        told[RECORD_WIDTH + 2],
+        told[RECORD_WIDTH + 3],
+    );
 }
 
 fn show_interval(rule: u32, set: u32, orbit: u32, bc: u32, next_orbit: u32, next_bc: u32) {

@@ -12,7 +12,7 @@ use lib.Seq.{take-all}
 use Rattle.words.specs.Word.{wordOf}
 use Rattle.packet.specs.declared.Packet.{Packet}
 use Rattle.packet.specs.Packet.{inRange}
-use Rattle.records.specs.Records.{Record, room, Each}
+use Rattle.records.specs.Records.{Record, room, Each, mostRecords}
 use Rattle.cdp_running.specs.declared.Tracker.{Tracker}
 use Rattle.cdp_running.specs.declared.PacketAnswer.{PacketAnswer}
 use Rattle.cdp_running.specs.Tracker.{acceptOf, resetOf, packetCall}
@@ -31,7 +31,7 @@ record Both (m : Met) (t u : Tracker) (b : List ℕ) (os os′ : List Outcome) :
   pub same : Same (meetsAll m (tookIn t b os)) (total t os .tracker) (total u os′ .tracker)
 
 -- A payload, with six places a word.
-words-alike : (n : ℕ) (m : Met) (t u : Tracker) (b : List ℕ) (p q : ℕ) → Same m t u → 6 * n ≤ p → 6 * n ≤ q
+words-alike : (n : ℕ) (m : Met) (t u : Tracker) (b : List ℕ) (p q : ℕ) → Same m t u → mostRecords * n ≤ p → mostRecords * n ≤ q
     → Both m t u b (wordCalls n t b p) (wordCalls n u b q)
 unfolding wordCalls kindsIn tookIn meetsAll total
 words-alike zero m t u b p q s hp hq = record { kinds-agree = refl; same = s }
@@ -39,7 +39,7 @@ words-alike (suc n) m t u b p q s hp hq =
     at (word-alike (take 10 b) p q s (λ _. omega arith) (λ _. omega arith)) (words-alike n)
   where
     at : {o o′ : Outcome} → Alike m t (wordOf (take 10 b)) o o′
-        → ((m : Met) (t u : Tracker) (b : List ℕ) (p q : ℕ) → Same m t u → 6 * n ≤ p → 6 * n ≤ q → Both m t u b (wordCalls n t b p) (wordCalls n u b q))
+        → ((m : Met) (t u : Tracker) (b : List ℕ) (p q : ℕ) → Same m t u → mostRecords * n ≤ p → mostRecords * n ≤ q → Both m t u b (wordCalls n t b p) (wordCalls n u b q))
         → Both m t u b (further o (λ next records. wordCalls n next (drop 10 b) (p - length records)))
         (further o′ (λ next records. wordCalls n next (drop 10 b) (q - length records)))
     at (both-refused x) more = record { kinds-agree = refl; same = s }
@@ -80,7 +80,7 @@ same-reset s =
       same-cdw = s .same-cdw;
     }
 
-payload-alike : (m : Met) (t u : Tracker) (b : List ℕ) (places : ℕ) → Same m t u → 6 * (length b / 10) ≤ places
+payload-alike : (m : Met) (t u : Tracker) (b : List ℕ) (places : ℕ) → Same m t u → mostRecords * (length b / 10) ≤ places
     → Both m t u b (payloadCalls t b places) (payloadCalls u b places)
 unfolding payloadCalls kindsIn tookIn meetsAll total
 payload-alike m t u b places s h =

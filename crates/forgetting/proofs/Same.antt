@@ -13,7 +13,7 @@ use Rattle.words.specs.Word.{wordOf}
 use Rattle.packet.specs.declared.Packet.{Packet}
 use Rattle.packet.specs.Packet.{maxWords}
 use Rattle.payload_fsm.specs.declared.ItsPayloadWord.{ItsPayloadWord}
-use Rattle.records.specs.Records.{Record, exceed}
+use Rattle.records.specs.Records.{Record, exceed, mostRecords}
 use Rattle.stored.specs.declared.StoredTdh.{StoredTdh}
 use Rattle.stored.specs.declared.InternalTdh.{InternalTdh}
 use Rattle.stored.specs.declared.StoredCdw.{StoredCdw}
@@ -24,7 +24,7 @@ use Rattle.stored.proofs.Replace.{ihw-replaced, tdh-replaced, internal-replaced
 use Rattle.cdp_running.specs.declared.Tracker.{Tracker}
 use Rattle.cdp_running.specs.Next.{nextOf}
 use Rattle.cdp_running.specs.Word.{takenAs, recordsOf, Outcome, taken, refused, takenOf, wordCall}
-use Rattle.cdp_running.proofs.Fine.{at-most-six}
+use Rattle.cdp_running.proofs.Fine.{few-records}
 use Rattle.forgetting.specs.Calls.{Took}
 use Rattle.forgetting.specs.Forget.{asIhw, asInternalTdh, asFirstCdw, some, HasMet}
 
@@ -121,21 +121,21 @@ same-next {m = m} {t = t} w s =
 pub data Alike (m : Met) (t : Tracker) (w : Word) : Outcome → Outcome → Type 0 where
   both-refused : (n : ℕ) → Alike m t w (refused n) (refused n)
   both-taken : {next next′ : Tracker} {k : ItsPayloadWord} {g : Bool} {rs rs′ : List Record} {f f′ : FrameTold} {l l′ : ℕ}
-      → Same (meets m (record { word = w; kind = k; seen = t .seen })) next next′ → length rs ≤ 6 → length rs′ ≤ 6
+      → Same (meets m (record { word = w; kind = k; seen = t .seen })) next next′ → length rs ≤ mostRecords → length rs′ ≤ mostRecords
       → Alike m t w (taken next k g rs f l) (taken next′ k g rs′ f′ l′)
 
 -- Six places are room enough.
-six-fit : (t : Tracker) (w : Word) (places : ℕ) → 6 ≤ places → exceed (recordsOf t w) places ≡ false
-six-fit t w places h = le-ltb places (length (recordsOf t w)) (omega (arith, at-most-six t w))
+six-fit : (t : Tracker) (w : Word) (places : ℕ) → mostRecords ≤ places → exceed (recordsOf t w) places ≡ false
+six-fit t w places h = le-ltb places (length (recordsOf t w)) (omega (arith, few-records t w))
 
 -- Of the tracker that stores the other's things.
 taken-alike : {m : Met} {t u : Tracker} (w : Word) → Same m t u → Alike m t w (takenOf t w) (takenOf u w)
 unfolding takenOf
 taken-alike {m = m} {t = t} w s =
     subst (λ (x : Tracker). Alike m t w (takenOf t w) (takenOf x w)) (s .is)
-    (both-taken (same-next w (itself s)) (at-most-six t w) (at-most-six (other s) w))
+    (both-taken (same-next w (itself s)) (few-records t w) (few-records (other s) w))
 
-pub word-alike : {m : Met} {t u : Tracker} (b : List ℕ) (p q : ℕ) → Same m t u → (length b ≡ 10 → 6 ≤ p) → (length b ≡ 10 → 6 ≤ q)
+pub word-alike : {m : Met} {t u : Tracker} (b : List ℕ) (p q : ℕ) → Same m t u → (length b ≡ 10 → mostRecords ≤ p) → (length b ≡ 10 → mostRecords ≤ q)
     → Alike m t (wordOf b) (wordCall t b p) (wordCall u b q)
 unfolding wordCall
 word-alike {m = m} {t = t} b p q s hp hq =

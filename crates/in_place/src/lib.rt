@@ -130,7 +130,7 @@ fn told(at: usize, used: usize, refusal: u8) -> PayloadTold
 {
     PayloadTold {
         words: (at / Word::SIZE) as u64,
-        records: (used / records::WIDTH) as u64,
+        records: (used / records::RECORD_WIDTH) as u64,
         refusal: refusal,
     }
 }
@@ -157,7 +157,7 @@ pub fn payload(a: &mut [u64], bytes: &[u8], out: &mut [u64]) -> PayloadTold
             let Written::Records(n) = step::step(a, bytes, at, &mut out[used..]) else {
                 return told(at, used, packet::REFUSED_ROOM);
             };
-            used = used + records::WIDTH * (n as usize);
+            used = used + records::RECORD_WIDTH * (n as usize);
             at = at + Word::SIZE;
         }
     }

@@ -8,7 +8,7 @@ ghost use Rattle.tracker_array.specs.Read.{trackerIn};
 ghost use Rattle.tracker_array.specs.Good.{GoodArray};
 use payload_fsm::Advanced;
 use payload_fsm::ItsPayloadWord;
-use records::MOST;
+use records::MOST_RECORDS;
 use records::Row;
 use records::Written;
 use tracker_array::place;
@@ -25,7 +25,7 @@ fn in_three(a: &[u64]) -> bool
 }
 
 // The rows of a word, by what it was taken as.
-fn rows(a: &[u64], taken: Advanced, word: Word) -> [Row; MOST]
+fn rows(a: &[u64], taken: Advanced, word: Word) -> [Row; MOST_RECORDS]
     requires { ⌜ GoodArray (now a) ⌝ }
     ensures { λ r. ⌜ r ≡ padded (rowsOf (trackerIn (now (a .entry))) taken word) ⌝ }
 {

@@ -11,7 +11,7 @@ use borrow.Rule.Slice.PartMut.{putMid, midOf, same-len-mid}
 use lib.ListN.{length, take, drop, length-append, length-drop}
 use lib.Seq.{drop-drop}
 use Rattle.payload_fsm.specs.declared.ItsPayloadWord.{ItsPayloadWord}
-use Rattle.records.specs.Records.{Record, flat, room, over}
+use Rattle.records.specs.Records.{Record, flat, room, over, recordWidth}
 use Rattle.records.proofs.Given.{flat-append, length-flat}
 use Rattle.records.proofs.Buffer.{mid-tail, lent-on, over-fits}
 use Rattle.stored.specs.declared.FrameTold.{FrameTold}
@@ -84,7 +84,7 @@ module _ {t : Tracker} {b out₀ : List ℕ} where
     tail = midOf used (length out - used) out
 
     -- Words taken from here on, with their records: the invariant after them.
-    further : {out′ : List ℕ} {u : Tracker} {to used′ : ℕ} (k : ℕ) (new : List Record) → Ready u b to → at / 10 + k ≡ to / 10 → used′ ≡ used + 4 * length new
+    further : {out′ : List ℕ} {u : Tracker} {to used′ : ℕ} (k : ℕ) (new : List Record) → Ready u b to → at / 10 + k ≡ to / 10 → used′ ≡ used + recordWidth * length new
         → out′ ≡ over (flat (g .rs ++ new)) out₀ → length out′ ≡ length out → runFrom b places cur at ≡ preceded k new (runFrom b (places - length new) u to)
         → Going t b out₀ out′ u to used′
     further {out′} {u} {to} {used′} k new ready words more after same runs =
@@ -148,7 +148,7 @@ module _ {t : Tracker} {b out₀ : List ℕ} where
           ∙ (λ i. onward cur (e i) (λ next records. preceded 1 records (wordsFrom ((length b - (at + 10)) / 10) next (drop-drop 10 at b i) (places - length records))))
 
       pub next : {kind : ItsPayloadWord} {guessed : Bool} {n : ℕ} {frame : FrameTold} {lanes : ℕ} → length y ≡ length tail → r .told ≡ Taken kind guessed n frame lanes
-          → Going t b out₀ (putMid used (length out - used) out y) (r .tracker) (at + 10) (used + 4 * n)
+          → Going t b out₀ (putMid used (length out - used) out y) (r .tracker) (at + 10) (used + recordWidth * n)
       next kept told =
           let k = took cur outcome (rw same-call at (w .answer)) told in
           let have = ap (λ (x : Tracker). x .accepted) (next-is cur (take 10 (drop at b)) places (k .0)) ∙ g .ready .accepted in

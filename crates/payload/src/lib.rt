@@ -68,13 +68,13 @@ pub fn payload(t: Tracker, bytes: &[u8], out: &mut [u64]) -> PayloadAnswer
             } => {
                 cur = after;
                 at = at + Word::SIZE;
-                used = used + records::WIDTH * (n as usize);
+                used = used + records::RECORD_WIDTH * (n as usize);
             }
             Told::Refused(refusal) => {
                 return PayloadAnswer {
                     tracker: after,
                     words: (at / Word::SIZE) as u64,
-                    records: (used / records::WIDTH) as u64,
+                    records: (used / records::RECORD_WIDTH) as u64,
                     refusal: refusal,
                 };
             }
@@ -83,7 +83,7 @@ pub fn payload(t: Tracker, bytes: &[u8], out: &mut [u64]) -> PayloadAnswer
     PayloadAnswer {
         tracker: cur,
         words: (at / Word::SIZE) as u64,
-        records: (used / records::WIDTH) as u64,
+        records: (used / records::RECORD_WIDTH) as u64,
         refusal: 0,
     }
 }

@@ -2,14 +2,13 @@
 -- Assumes nothing.
 use Prim.Native.Nat.{ℕ, zero, suc, _+_, _-_, _*_, _<_}
 use mathlib.Core.Path.{_≡_, refl, sym, ap, _∙_}
-use mathlib.Core.Bool.{Bool, true, false, cond, not, _||_, or-false, true≢false}
+use mathlib.Core.Bool.{Bool, true, false, cond, not, _||_, or-assoc, or-false, true≢false}
 use mathlib.Core.List.{List, [], _∷_, _++_, append-assoc, append-nil}
 use native.Mathlib.Nat.{add-assoc, add-zero, zero-add}
 use native.Mathlib.Numerals.{add-one}
 use native.Mathlib.Omega.{arith}
 use lib.ListN.{length, getD, take, replicate, length-append}
 use lib.Seq.{take-suc}
-use Rattle.words.proofs.Listing.{reads-all}
 use Rattle.records.specs.declared.Row.{Row}
 use Rattle.records.specs.Records.{Record, recordAt, none, numbers, flat, given, count, anyOn, silent, recordWidth, mostRecords, padded, Each}
 
@@ -75,6 +74,16 @@ unfolding count
 count-more rows i d h =
     rw (add-one, take-suc rows i d, count-append) (ap (λ (n : ℕ). count (take i rows) + n) (add-zero (cond (getD rows i d .on) 1 0)))
 
+any-append : (xs ys : List Row) → anyOn (xs ++ ys) ≡ (anyOn xs || anyOn ys)
+unfolding anyOn
+any-append [] ys = refl
+any-append (x ∷ xs) ys = ap (λ (b : Bool). x .on || b) (any-append xs ys) ∙ sym (or-assoc (x .on) (anyOn xs) (anyOn ys))
+
+pub any-more : (rows : List Row) (i : ℕ) (d : Row) → i < length rows → anyOn (take (i + 1) rows) ≡ (anyOn (take i rows) || getD rows i d .on)
+unfolding anyOn
+any-more rows i d h =
+    rw (add-one, take-suc rows i d, any-append) (ap (λ (b : Bool). anyOn (take i rows) || b) (or-false (getD rows i d .on)))
+
 -- No row's condition holds: there is no record.
 pub unheard : (position : ℕ) (rows : List Row) → silent rows ≡ true → given position rows ≡ []
 unfolding given anyOn
@@ -84,12 +93,6 @@ unheard position (row ∷ rows) e = off (row .on) (unheard position rows) e
     off : (on : Bool) → (silent rows ≡ true → given position rows ≡ []) → not (on || anyOn rows) ≡ true → cond on (recordAt position row ∷ []) [] ++ given position rows ≡ []
     off true rest h = absurd (true≢false (sym h))
     off false rest h = rest h
-
--- The six places of a word's rows, read one by one.
-pub six-on : (rows : List Row) → length rows ≡ 6
-    → anyOn rows ≡ (getD rows 0 none .on || (getD rows 1 none .on || (getD rows 2 none .on || (getD rows 3 none .on || (getD rows 4 none .on || getD rows 5 none .on)))))
-unfolding anyOn
-six-on rows e = ap anyOn (sym (reads-all none 6 0 rows (omega arith))) ∙ simp or-false
 
 -- Places with no record give none.
 empty : (position n : ℕ) → given position (replicate n none) ≡ []

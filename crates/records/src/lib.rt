@@ -7,10 +7,10 @@ ghost use lib.ListN.{length};
 ghost use Rattle.records.specs.Records.{recordWidth, when, none, silent, count, recordAt, numbers, over, WritePost};
 
 // Numbers of a record.
-pub const WIDTH: usize = 4;
+pub const RECORD_WIDTH: usize = 4;
 
 // The most records that a word gives.
-pub const MOST: usize = 6;
+pub const MOST_RECORDS: usize = 6;
 
 // A record's code and its two numbers, and whether it is given. The position is the word's.
 pub struct Row {
@@ -53,24 +53,23 @@ pub fn pick(b: bool, x: u64, y: u64) -> u64
 }
 
 // Whether no record is given.
-pub fn silent(rows: [Row; MOST]) -> bool
+pub fn silent(rows: [Row; MOST_RECORDS]) -> bool
     ensures { λ r. ⌜ r ≡ silent rows ⌝ }
 {
-    let a = rows[0];
-    let b = rows[1];
-    let c = rows[2];
-    let d = rows[3];
-    let e = rows[4];
-    let f = rows[5];
-    !(a.on | (b.on | (c.on | (d.on | (e.on | f.on)))))
+    let mut any = false;
+    for i in 0..MOST_RECORDS {
+        let row = rows[i];
+        any = any | row.on;
+    }
+    !any
 }
 
 // How many records are given.
-fn count(rows: [Row; MOST]) -> u64
+fn count(rows: [Row; MOST_RECORDS]) -> u64
     ensures { λ r. ⌜ r ≡ count rows ⌝ }
 {
     let mut n: u64 = 0;
-    for i in 0..MOST {
+    for i in 0..MOST_RECORDS {
         let row = rows[i];
         if row.on {
             n = n + 1;
@@ -91,19 +90,19 @@ fn put(out: &mut [u64], position: u64, row: Row)
 }
 
 // The records that are given, at the front of a buffer, whose rest stays. Where they exceed its room nothing is written.
-pub fn write(out: &mut [u64], position: u64, rows: [Row; MOST]) -> Written
+pub fn write(out: &mut [u64], position: u64, rows: [Row; MOST_RECORDS]) -> Written
     ensures { λ r. ⌜ WritePost position rows (now (out .entry)) r (now (out .exit)) ⌝ }
 {
     let n = count(rows);
-    if ((out.len() / WIDTH) as u64) < n {
+    if ((out.len() / RECORD_WIDTH) as u64) < n {
         return Written::NoRoom;
     }
     let mut used: usize = 0;
-    for k in 0..MOST {
+    for k in 0..MOST_RECORDS {
         let row = rows[k];
         if row.on {
             put(&mut out[used..], position, row);
-            used = used + WIDTH;
+            used = used + RECORD_WIDTH;
         }
     }
     Written::Records(n)

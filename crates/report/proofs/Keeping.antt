@@ -10,13 +10,13 @@ use lib.ListN.{length, length-append}
 use Rattle.words.specs.Word.{wordOf}
 use Rattle.packet.specs.declared.Packet.{Packet}
 use Rattle.packet.specs.Packet.{inRange}
-use Rattle.records.specs.Records.{Record}
+use Rattle.records.specs.Records.{Record, mostRecords}
 use Rattle.cdp_running.specs.declared.Tracker.{Tracker}
 use Rattle.cdp_running.specs.Tracker.{Good, packetCall}
 use Rattle.cdp_running.specs.Word.{recordsOf, Outcome, taken, refused, takenOf, wordCall, answerOf, recordsIn}
 use Rattle.cdp_running.proofs.Good.{good-accept, good-next}
 use Rattle.cdp_running.proofs.Outcome.{taken-admitted, taken-is, next-is}
-use Rattle.cdp_running.proofs.Fine.{at-most-six}
+use Rattle.cdp_running.proofs.Fine.{few-records}
 use Rattle.bench_file.specs.declared.Found.{Found}
 use Rattle.bench_file.specs.declared.Found.the-variants as F
 use Rattle.bench_file.specs.File.{bytesAt}
@@ -41,15 +41,15 @@ good-packet t p g = at (inRange p) refl
     at true e = simp e (good-accept t p g e)
     at false e = simp e g
 
-good-word : (t : Tracker) (bytes : List ℕ) → Good t → Good (answerOf t (wordCall t bytes 6) .tracker) × (length (recordsIn (wordCall t bytes 6)) ≤ 6)
+good-word : (t : Tracker) (bytes : List ℕ) → Good t → Good (answerOf t (wordCall t bytes mostRecords) .tracker) × (length (recordsIn (wordCall t bytes mostRecords)) ≤ mostRecords)
 unfolding takenOf
-good-word t bytes g = at (wordCall t bytes 6) refl
+good-word t bytes g = at (wordCall t bytes mostRecords) refl
   where
-    at : (o : Outcome) → wordCall t bytes 6 ≡ o → Good (answerOf t o .tracker) × (length (recordsIn o) ≤ 6)
+    at : (o : Outcome) → wordCall t bytes mostRecords ≡ o → Good (answerOf t o .tracker) × (length (recordsIn o) ≤ mostRecords)
     at (taken next kind guessed records frame lanes) e =
-        let a = taken-admitted t bytes 6 e in
-        let same : recordsOf t (wordOf bytes) ≡ records = cc (taken-is t bytes 6 e) in
-        (rw (next-is t bytes 6 e) (good-next t (wordOf bytes) g (a .accepted) (a .low)), omega (arith, ap length same, at-most-six t (wordOf bytes)))
+        let a = taken-admitted t bytes mostRecords e in
+        let same : recordsOf t (wordOf bytes) ≡ records = cc (taken-is t bytes mostRecords e) in
+        (rw (next-is t bytes mostRecords e) (good-next t (wordOf bytes) g (a .accepted) (a .low)), omega (arith, ap length same, few-records t (wordOf bytes)))
     at (refused n) e = (g, omega arith)
 
 -- The text that is still to be printed.

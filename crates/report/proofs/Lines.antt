@@ -8,7 +8,7 @@ use native.Mathlib.Omega.{arith}
 use borrow.Rule.Slice.PartMut.{putMid, midOf}
 use lib.ListN.{length, getD, drop}
 use lib.Seq.{getD-drop}
-use Rattle.records.specs.Records.{Record, flat}
+use Rattle.records.specs.Records.{Record, flat, recordWidth}
 use Rattle.ascii.specs.Text.{Puts}
 use Rattle.ascii.proofs.Putting.{behind}
 use Rattle.report.specs.Text.{line, lines, firstRecord, recordsAt}
@@ -23,35 +23,35 @@ abbrev pub recordFrom : List ℕ → ℕ → Record
 recordFrom d at = record { position = getD d at 0; code = getD d (at + 1) 0; first = getD d (at + 2) 0; second = getD d (at + 3) 0 }
 
 -- One record more.
-records-more : (i : ℕ) (d : List ℕ) → recordsAt (suc i) d ≡ recordsAt i d ++ (recordFrom d (4 * i) ∷ [])
+records-more : (i : ℕ) (d : List ℕ) → recordsAt (suc i) d ≡ recordsAt i d ++ (recordFrom d (recordWidth * i) ∷ [])
 unfolding recordsAt
 records-more zero d = refl
 records-more (suc i) d =
-    ap (λ (l : List Record). firstRecord d ∷ l) (records-more i (drop 4 d) ∙ ap (λ (r : Record). recordsAt i (drop 4 d) ++ (r ∷ [])) here)
+    ap (λ (l : List Record). firstRecord d ∷ l) (records-more i (drop recordWidth d) ∙ ap (λ (r : Record). recordsAt i (drop recordWidth d) ++ (r ∷ [])) here)
   where
-    at : (k j : ℕ) → 4 + k ≡ j → getD (drop 4 d) k 0 ≡ getD d j 0
-    at k j e = getD-drop 4 d k 0 ∙ ap (λ (n : ℕ). getD d n 0) e
+    at : (k j : ℕ) → recordWidth + k ≡ j → getD (drop recordWidth d) k 0 ≡ getD d j 0
+    at k j e = getD-drop recordWidth d k 0 ∙ ap (λ (n : ℕ). getD d n 0) e
 
-    here : recordFrom (drop 4 d) (4 * i) ≡ recordFrom d (4 * suc i)
+    here : recordFrom (drop recordWidth d) (recordWidth * i) ≡ recordFrom d (recordWidth * suc i)
     here =
         λ j. record {
-          position = at (4 * i) (4 * suc i) (omega arith) j;
-          code = at (4 * i + 1) (4 * suc i + 1) (omega arith) j;
-          first = at (4 * i + 2) (4 * suc i + 2) (omega arith) j;
-          second = at (4 * i + 3) (4 * suc i + 3) (omega arith) j;
+          position = at (recordWidth * i) (recordWidth * suc i) (omega arith) j;
+          code = at (recordWidth * i + 1) (recordWidth * suc i + 1) (omega arith) j;
+          first = at (recordWidth * i + 2) (recordWidth * suc i + 2) (omega arith) j;
+          second = at (recordWidth * i + 3) (recordWidth * suc i + 3) (omega arith) j;
         }
 
-lines-more : (i : ℕ) (d : List ℕ) → lines (recordsAt i d) ++ line (recordFrom d (4 * i)) ≡ lines (recordsAt (i + 1) d)
+lines-more : (i : ℕ) (d : List ℕ) → lines (recordsAt i d) ++ line (recordFrom d (recordWidth * i)) ≡ lines (recordsAt (i + 1) d)
 unfolding lines
 lines-more i d =
-    let r = recordFrom d (4 * i) in
+    let r = recordFrom d (recordWidth * i) in
     sym
     (ap (λ (n : ℕ). lines (recordsAt n d)) (add-one i) ∙ ap lines (records-more i d) ∙ lines-append (recordsAt i d) (r ∷ [])
     ∙ ap (λ (l : List ℕ). lines (recordsAt i d) ++ l) (append-nil (line r)))
 
 -- The line of the next record behind the lines of those before it.
 pub line-behind : (records : List ℕ) (i : ℕ) {d l y : List ℕ} {r s : ℕ} → Puts (lines (recordsAt i records)) d r l
-    → Puts (line (recordFrom records (4 * i))) (midOf r (length l - r) l) s y
+    → Puts (line (recordFrom records (recordWidth * i))) (midOf r (length l - r) l) s y
     → Puts (lines (recordsAt (i + 1) records)) d (r + s) (putMid r (length l - r) l y)
 line-behind records i {d} {l} {y} {r} {s} p q =
     subst (λ (t : List ℕ). Puts t d (r + s) (putMid r (length l - r) l y)) (lines-more i records) (behind p q)

@@ -12,12 +12,13 @@ use lib.Seq.{length-take-le}
 use Rattle.words.specs.Word.{wordOf}
 use Rattle.packet.specs.declared.Packet.{Packet}
 use Rattle.packet.specs.Packet.{inRange}
+use Rattle.records.specs.Records.{mostRecords}
 use Rattle.cdp_running.specs.declared.Tracker.{Tracker}
 use Rattle.cdp_running.specs.Tracker.{startOf, packetCall, acceptOf}
 use Rattle.cdp_running.specs.Next.{nextOf as afterWord}
 use Rattle.cdp_running.specs.Word.{takenAs, Outcome, takenOf, wordCall, answerOf}
 use Rattle.cdp_running.proofs.Outcome.{admitted-taken}
-use Rattle.cdp_running.proofs.Fine.{at-most-six}
+use Rattle.cdp_running.proofs.Fine.{few-records}
 use Rattle.bench_file.specs.File.{bytesAt, checkOf}
 use Rattle.bench_file.specs.Items.{Item, items}
 use Rattle.bench_file.specs.Reader.{readerAt, Gives, end, packet-first, then-word, Sound, Place}
@@ -34,14 +35,14 @@ unfolding packetCall
 packet-accepted t p e = (simp e, simp e)
 
 word-taken : (t : Tracker) (left : ℕ) (bytes : List ℕ) → Takes t (suc left) → length bytes ≡ 10
-    → (wordCall t bytes 6 ≡ takenOf t (wordOf bytes)) × Takes (answerOf t (wordCall t bytes 6) .tracker) left
+    → (wordCall t bytes mostRecords ≡ takenOf t (wordOf bytes)) × Takes (answerOf t (wordCall t bytes mostRecords) .tracker) left
 unfolding takenOf
 word-taken t left bytes h ten =
     let have = h .accepted (omega arith) in
     let room = h .room in
-    let e : wordCall t bytes 6 ≡ takenOf t (wordOf bytes) =
-    admitted-taken t bytes 6 (record { ten = ten; accepted = have; low = omega arith; fits = le-ltb 6 _ (at-most-six t (wordOf bytes)) }) in
-    let next : answerOf t (wordCall t bytes 6) .tracker ≡ afterWord t (takenAs t (wordOf bytes)) (wordOf bytes) = ap (λ (o : Outcome). answerOf t o .tracker) e in
+    let e : wordCall t bytes mostRecords ≡ takenOf t (wordOf bytes) =
+    admitted-taken t bytes mostRecords (record { ten = ten; accepted = have; low = omega arith; fits = le-ltb mostRecords _ (few-records t (wordOf bytes)) }) in
+    let next : answerOf t (wordCall t bytes mostRecords) .tracker ≡ afterWord t (takenAs t (wordOf bytes)) (wordOf bytes) = ap (λ (o : Outcome). answerOf t o .tracker) e in
     (e, subst (λ (u : Tracker). Takes u left) (sym next) (record { accepted = λ _. have; room = omega arith }))
 
 module _ (bytes : RefT (List ℕ)) (s : Sound (now bytes)) where
@@ -60,7 +61,7 @@ module _ (bytes : RefT (List ℕ)) (s : Sound (now bytes)) where
       let given = word-given s place (asks-word (now bytes) i n left ∙ e) in
       let less : suc left - 1 ≡ left = omega arith in
       let w = word-taken t left (bytesAt (now bytes) at) h (ten at (given .inside)) in
-      (w .0, all-accepted rest (rw less at (given .next)) (answerOf t (wordCall t (bytesAt (now bytes) at) 6) .tracker) (w .1))
+      (w .0, all-accepted rest (rw less at (given .next)) (answerOf t (wordCall t (bytesAt (now bytes) at) mostRecords) .tracker) (w .1))
 
 -- Of every list of bytes there is a reader.
 held : List ℕ → RefT (List ℕ)

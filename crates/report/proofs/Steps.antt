@@ -9,7 +9,7 @@ use borrow.Author.Tests.{eqb-true}
 use borrow.Rule.Slice.PartMut.{midOf}
 use lib.Dec.{eqb}
 use lib.ListN.{length}
-use Rattle.records.specs.Records.{flat, room, over}
+use Rattle.records.specs.Records.{flat, room, over, mostRecords, recordWidth}
 use Rattle.records.proofs.Given.{length-flat}
 use Rattle.records.proofs.Buffer.{over-fits}
 use Rattle.cdp_running.specs.declared.Tracker.{Tracker}
@@ -57,36 +57,36 @@ unfolding startReport
 started file p q h = (rw (q, p, h), rw (q, p, h) (good-start file))
 
 -- A word's records, as its call told them and left them in the buffer.
-module _ (t : Tracker) (bytes : List ℕ) {zeros after : List ℕ} {a : WordAnswer} (w : WordPost t bytes zeros a after) (n : length zeros ≡ 24) where
-  six : room zeros ≡ 6
+module _ (t : Tracker) (bytes : List ℕ) {zeros after : List ℕ} {a : WordAnswer} (w : WordPost t bytes zeros a after) (n : length zeros ≡ mostRecords * recordWidth) where
+  six : room zeros ≡ mostRecords
   six = omega arith
 
-  answered : a ≡ answerOf t (wordCall t bytes 6)
+  answered : a ≡ answerOf t (wordCall t bytes mostRecords)
   answered = rw six at (w .answer)
 
-  stand : after ≡ over (flat (recordsIn (wordCall t bytes 6))) zeros
+  stand : after ≡ over (flat (recordsIn (wordCall t bytes mostRecords))) zeros
   stand = rw six at (w .buffer-is)
 
   told : (o : Outcome) → recordsTold (answerOf t o .told) ≡ length (recordsIn o)
   told (taken next kind guessed records frame lanes) = refl
   told (refused m) = refl
 
-  told-is : recordsTold (a .told) ≡ length (recordsIn (wordCall t bytes 6))
-  told-is = rw answered (told (wordCall t bytes 6))
+  told-is : recordsTold (a .told) ≡ length (recordsIn (wordCall t bytes mostRecords))
+  told-is = rw answered (told (wordCall t bytes mostRecords))
 
-  pub told-few : length after ≡ length zeros → recordsTold (a .told) ≤ 6
+  pub told-few : length after ≡ length zeros → recordsTold (a .told) ≤ mostRecords
   told-few same =
-      let rs = recordsIn (wordCall t bytes 6) in
+      let rs = recordsIn (wordCall t bytes mostRecords) in
       let fits = over-fits (flat rs) zeros (sym (ap length stand) ∙ same) in
       omega (arith, told-is, length-flat rs)
 
-  pub told-stand : recordsAt (recordsTold (a .told)) after ≡ recordsIn (wordCall t bytes 6)
-  told-stand = rw (told-is, stand) (records-written (recordsIn (wordCall t bytes 6)) _)
+  pub told-stand : recordsAt (recordsTold (a .told)) after ≡ recordsIn (wordCall t bytes mostRecords)
+  told-stand = rw (told-is, stand) (records-written (recordsIn (wordCall t bytes mostRecords)) _)
 
 -- A word: its lines are printed.
 pub word-printed : (file : List ℕ) (r : Report) (at : ℕ) {zeros after d d′ : List ℕ} {a : WordAnswer} {given n on : ℕ}
     → WordPost (r .tracker) (bytesAt file at) zeros a after
-    → length zeros ≡ 24
+    → length zeros ≡ mostRecords * recordWidth
     → on ≡ pastWord file (r .word)
     → given ≡ recordsTold (a .told)
     → Puts (lines (recordsAt given after)) d n d′
@@ -94,7 +94,7 @@ pub word-printed : (file : List ℕ) (r : Report) (at : ℕ) {zeros after d d′
 word-printed file r at {after = after} {given = given} w z o g p =
     let t = r .tracker in
     let bytes = bytesAt file at in
-    let stand : recordsAt given after ≡ recordsIn (wordCall t bytes 6) = rw g (told-stand t bytes w z) in
+    let stand : recordsAt given after ≡ recordsIn (wordCall t bytes mostRecords) = rw g (told-stand t bytes w z) in
     record {
       next-is = rw (o, g, told-is t bytes w z, answered t bytes w z);
       puts = rw stand at p;

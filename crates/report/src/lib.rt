@@ -20,7 +20,7 @@ use packet::Settings;
 use words::Word;
 
 // The most bytes that a step prints: the lines of a word's records, of numbers with 20 digits.
-pub const MOST: usize = records::MOST * records::WIDTH * 21;
+pub const MOST_PRINTED: usize = records::MOST_RECORDS * records::RECORD_WIDTH * 21;
 
 // The period that is set.
 pub const PERIOD: u32 = 198;
@@ -127,7 +127,7 @@ fn word_step(r: Report, file: &[u8], at: usize, out: &mut [u8]) -> Filled
 {
     let tracker = r.tracker;
     let end = at + Word::SIZE;
-    let mut records = [0u64; records::MOST * records::WIDTH];
+    let mut records = [0u64; records::MOST_RECORDS * records::RECORD_WIDTH];
     let answer = tracker.word(&file[at..end], &mut records);
     let told = answer.told;
     let next = answer.tracker;
@@ -217,12 +217,12 @@ impl Report {
         is_done(stage)
     }
 
-    // One step: its text at the front of out, whose rest stays. A buffer of at least MOST bytes brings the report on.
+    // One step: its text at the front of out, whose rest stays. A buffer of at least MOST_PRINTED bytes brings the report on.
     pub fn step(self, file: &[u8], out: &mut [u8]) -> Filled
         requires { ⌜ GoodReport (now file) self ⌝ }
         ensures { λ p. ⌜ StepPost (printer (now (file .entry))) self (now (out .entry)) (p .report) (p .n) (now (out .exit)) ⌝ }
     {
-        if out.len() < MOST {
+        if out.len() < MOST_PRINTED {
             return Filled { report: self, n: 0 };
         }
         stage_step(self, file, out)

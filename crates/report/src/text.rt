@@ -36,7 +36,7 @@ pub(crate) fn put_lines(out: &mut [u8], records: &[u64], n: usize) -> usize
     let mut used: usize = 0;
     let mut i: usize = 0;
     while i < n {
-        let at = records::WIDTH * i;
+        let at = records::RECORD_WIDTH * i;
         used = used
             + put_line(
                 &mut out[used..],

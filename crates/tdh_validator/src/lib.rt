@@ -8,7 +8,7 @@ ghost use Rattle.tdh_validator.specs.Tdh.{detail, orbitDifference, ranBa
 use packet::Packet;
 use packet::Rule;
 use packet::Settings;
-use records::MOST;
+use records::MOST_RECORDS;
 use records::Row;
 use records::none;
 use records::pick;
@@ -120,7 +120,7 @@ pub fn check_tdh_no_continuation(
     packet: Packet,
     earlier: InternalTdh,
     word: Word,
-) -> [Row; MOST]
+) -> [Row; MOST_RECORDS]
     ensures { λ r. ⌜ r ≡ padded (tdhRows settings packet earlier word) ⌝ }
 {
     let tdh = Tdh { word: word };
@@ -132,29 +132,29 @@ pub fn check_tdh_no_continuation(
     let continuation = tdh.continuation();
     let matched = (packet.page == 0) & ((internal == 1) | (packet.trigger / 16 % 2 == 1));
     let packet_kind = packet.trigger % 4096;
-    [
-        when(fault != 0, 40, fault, 0),
-        when(settings.running & (continuation != 0), 42, 1, 0),
-        when(
-            settings.running & (orbit != packet.orbit),
-            444,
-            orbit as u64,
-            packet.orbit as u64,
-        ),
-        when(
-            settings.running & (matched & (bc != packet.bc)),
-            445,
-            bc as u64,
-            packet.bc as u64,
-        ),
-        when(
-            settings.running & (matched & ((kind as u32) != packet_kind)),
-            44,
-            kind as u64,
-            packet_kind as u64,
-        ),
-        check_trigger_interval(settings, earlier, word),
-    ]
+    let mut rows = [none(); MOST_RECORDS];
+    rows[0] = when(fault != 0, 40, fault, 0);
+    rows[1] = when(settings.running & (continuation != 0), 42, 1, 0);
+    rows[2] = when(
+        settings.running & (orbit != packet.orbit),
+        444,
+        orbit as u64,
+        packet.orbit as u64,
+    );
+    rows[3] = when(
+        settings.running & (matched & (bc != packet.bc)),
+        445,
+        bc as u64,
+        packet.bc as u64,
+    );
+    rows[4] = when(
+        settings.running & (matched & ((kind as u32) != packet_kind)),
+        44,
+        kind as u64,
+        packet_kind as u64,
+    );
+    rows[5] = check_trigger_interval(settings, earlier, word);
+    rows
 }
 
 // Kind TDH after packet done.
@@ -163,30 +163,30 @@ pub fn check_after_tdt_packet_done_true(
     previous: StoredTdh,
     earlier: InternalTdh,
     word: Word,
-) -> [Row; MOST]
+) -> [Row; MOST_RECORDS]
     ensures { λ r. ⌜ r ≡ padded (afterPacketDoneRows settings previous earlier word) ⌝ }
 {
     let tdh = Tdh { word: word };
     let fault = sanity_check(word);
     let bc = tdh.trigger_bc();
-    let z = none();
-    [
-        when(fault != 0, 40, fault, 0),
-        when(
-            settings.running & (previous.bc > bc),
-            440,
-            previous.bc as u64,
-            bc as u64,
-        ),
-        check_trigger_interval(settings, earlier, word),
-        z,
-        z,
-        z,
-    ]
+    let mut rows = [none(); MOST_RECORDS];
+    rows[0] = when(fault != 0, 40, fault, 0);
+    rows[1] = when(
+        settings.running & (previous.bc > bc),
+        440,
+        previous.bc as u64,
+        bc as u64,
+    );
+    rows[2] = check_trigger_interval(settings, earlier, word);
+    rows
 }
 
 // Kind TDH continuation.
-pub fn check_continuation(settings: Settings, previous: StoredTdh, word: Word) -> [Row; MOST]
+pub fn check_continuation(
+    settings: Settings,
+    previous: StoredTdh,
+    word: Word,
+) -> [Row; MOST_RECORDS]
     ensures { λ r. ⌜ r ≡ padded (continuationRows settings previous word) ⌝ }
 {
     let tdh = Tdh { word: word };
@@ -195,28 +195,26 @@ pub fn check_continuation(settings: Settings, previous: StoredTdh, word: Word) -
     let orbit = tdh.trigger_orbit();
     let kind = tdh.trigger_type();
     let continuation = tdh.continuation();
-    let z = none();
-    [
-        when(fault != 0, 40, fault, 0),
-        when(settings.running & (continuation != 1), 41, 0, 0),
-        when(
-            settings.running & (bc != previous.bc),
-            441,
-            bc as u64,
-            previous.bc as u64,
-        ),
-        when(
-            settings.running & (orbit != previous.orbit),
-            442,
-            orbit as u64,
-            previous.orbit as u64,
-        ),
-        when(
-            settings.running & (kind != previous.trigger),
-            443,
-            kind as u64,
-            previous.trigger as u64,
-        ),
-        z,
-    ]
+    let mut rows = [none(); MOST_RECORDS];
+    rows[0] = when(fault != 0, 40, fault, 0);
+    rows[1] = when(settings.running & (continuation != 1), 41, 0, 0);
+    rows[2] = when(
+        settings.running & (bc != previous.bc),
+        441,
+        bc as u64,
+        previous.bc as u64,
+    );
+    rows[3] = when(
+        settings.running & (orbit != previous.orbit),
+        442,
+        orbit as u64,
+        previous.orbit as u64,
+    );
+    rows[4] = when(
+        settings.running & (kind != previous.trigger),
+        443,
+        kind as u64,
+        previous.trigger as u64,
+    );
+    rows
 }

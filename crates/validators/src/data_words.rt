@@ -7,8 +7,9 @@ use data_ids::is_data_word_id;
 use data_ids::ob_data_word_id_to_input_number_connector;
 use data_ids::ob_data_word_id_to_lane;
 use packet::Settings;
-use records::MOST;
+use records::MOST_RECORDS;
 use records::Row;
+use records::none;
 use records::pick;
 use records::when;
 use stored::StoredCdw;
@@ -40,7 +41,7 @@ pub fn check(
     stored: StoredCdw,
     guessed: bool,
     word: Word,
-) -> [Row; MOST]
+) -> [Row; MOST_RECORDS]
     ensures { λ r. ⌜ r ≡ padded (dataRows settings seen lanes stored guessed word) ⌝ }
 {
     let cdw = Cdw { word: word };
@@ -53,22 +54,22 @@ pub fn check(
     let outer = ob_data_word_id_to_lane(id);
     let input = ob_data_word_id_to_input_number_connector(id);
     let laned = settings.running & !first;
-    [
-        when(guessed, 991, id as u64, 0),
-        when(
-            settings.running & (first & (stored.stored & ((stored.user != user) & (index != 0)))),
-            81,
-            index as u64,
-            0,
-        ),
-        when(!first & !known, 70, id as u64, 0),
-        lane_row(laned & (id / 32 == 1), 1072, true, inner, lanes),
-        lane_row(laned & (id / 32 == 2), 1071, false, outer, lanes),
-        when(
-            laned & ((id / 32 == 2) & (input > 6)),
-            1073,
-            input as u64,
-            0,
-        ),
-    ]
+    let mut rows = [none(); MOST_RECORDS];
+    rows[0] = when(guessed, 991, id as u64, 0);
+    rows[1] = when(
+        settings.running & (first & (stored.stored & ((stored.user != user) & (index != 0)))),
+        81,
+        index as u64,
+        0,
+    );
+    rows[2] = when(!first & !known, 70, id as u64, 0);
+    rows[3] = lane_row(laned & (id / 32 == 1), 1072, true, inner, lanes);
+    rows[4] = lane_row(laned & (id / 32 == 2), 1071, false, outer, lanes);
+    rows[5] = when(
+        laned & ((id / 32 == 2) & (input > 6)),
+        1073,
+        input as u64,
+        0,
+    );
+    rows
 }

@@ -4,7 +4,7 @@ ghost use Rattle.records.specs.Records.{padded};
 ghost use Rattle.validators.specs.Ddw.{detail, ddw0Rows};
 use packet::Packet;
 use packet::Settings;
-use records::MOST;
+use records::MOST_RECORDS;
 use records::Row;
 use records::none;
 use records::pick;
@@ -28,28 +28,30 @@ fn sanity_check(word: Word) -> u64
 }
 
 // Kind DDW0, guessed or not.
-pub fn check_at_ddw0(settings: Settings, packet: Packet, guessed: bool, word: Word) -> [Row; MOST]
+pub fn check_at_ddw0(
+    settings: Settings,
+    packet: Packet,
+    guessed: bool,
+    word: Word,
+) -> [Row; MOST_RECORDS]
     ensures { λ r. ⌜ r ≡ padded (ddw0Rows settings packet guessed word) ⌝ }
 {
     let fault = sanity_check(word);
     let id = word.id();
-    let z = none();
-    [
-        when(guessed, 992, id as u64, 0),
-        when(fault != 0, 60, fault, 0),
-        when(
-            settings.running & (packet.stop != 1),
-            1110,
-            packet.stop as u64,
-            0,
-        ),
-        when(
-            settings.running & (packet.page == 0),
-            1111,
-            packet.page as u64,
-            0,
-        ),
-        z,
-        z,
-    ]
+    let mut rows = [none(); MOST_RECORDS];
+    rows[0] = when(guessed, 992, id as u64, 0);
+    rows[1] = when(fault != 0, 60, fault, 0);
+    rows[2] = when(
+        settings.running & (packet.stop != 1),
+        1110,
+        packet.stop as u64,
+        0,
+    );
+    rows[3] = when(
+        settings.running & (packet.page == 0),
+        1111,
+        packet.page as u64,
+        0,
+    );
+    rows
 }

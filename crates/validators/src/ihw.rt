@@ -4,7 +4,7 @@ ghost use Rattle.records.specs.Records.{padded};
 ghost use Rattle.validators.specs.Ihw.{detail, ihwRows, continuationRows};
 use packet::Packet;
 use packet::Settings;
-use records::MOST;
+use records::MOST_RECORDS;
 use records::Row;
 use records::none;
 use records::pick;
@@ -28,28 +28,26 @@ pub fn check_at_initial_ihw(
     packet: Packet,
     three: bool,
     word: Word,
-) -> [Row; MOST]
+) -> [Row; MOST_RECORDS]
     ensures { λ r. ⌜ r ≡ padded (ihwRows settings packet three word) ⌝ }
 {
     let fault = sanity_check(word);
     let stop = packet.stop as u64;
     let page = packet.page as u64;
-    let z = none();
-    [
-        when(fault != 0, 30, fault, 0),
-        when(settings.running & (stop != 0), 1120, stop, 0),
-        when(settings.running & (!three & (page != 0)), 1121, page, 0),
-        when(settings.running & (three & (page == 0)), 1122, page, 0),
-        z,
-        z,
-    ]
+    let mut rows = [none(); MOST_RECORDS];
+    rows[0] = when(fault != 0, 30, fault, 0);
+    rows[1] = when(settings.running & (stop != 0), 1120, stop, 0);
+    rows[2] = when(settings.running & (!three & (page != 0)), 1121, page, 0);
+    rows[3] = when(settings.running & (three & (page == 0)), 1122, page, 0);
+    rows
 }
 
 // Kind IHW continuation.
-pub fn check_continuation(word: Word) -> [Row; MOST]
+pub fn check_continuation(word: Word) -> [Row; MOST_RECORDS]
     ensures { λ r. ⌜ r ≡ padded (continuationRows word) ⌝ }
 {
     let fault = sanity_check(word);
-    let z = none();
-    [when(fault != 0, 30, fault, 0), z, z, z, z, z]
+    let mut rows = [none(); MOST_RECORDS];
+    rows[0] = when(fault != 0, 30, fault, 0);
+    rows
 }

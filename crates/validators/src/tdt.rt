@@ -3,7 +3,7 @@ ghost use mathlib.Core.Path.{_≡_};
 ghost use Rattle.records.specs.Records.{padded};
 ghost use Rattle.validators.specs.Tdt.{detail, tdtRows};
 use packet::Settings;
-use records::MOST;
+use records::MOST_RECORDS;
 use records::Row;
 use records::none;
 use records::pick;
@@ -22,19 +22,14 @@ fn sanity_check(word: Word) -> u64
 }
 
 // Kind TDT: with packet done it ends a frame, of which a start must have been seen.
-pub fn check(settings: Settings, live: bool, word: Word) -> [Row; MOST]
+pub fn check(settings: Settings, live: bool, word: Word) -> [Row; MOST_RECORDS]
     ensures { λ r. ⌜ r ≡ padded (tdtRows settings live word) ⌝ }
 {
     let tdt = Tdt { word: word };
     let fault = sanity_check(word);
     let done = tdt.packet_done();
-    let z = none();
-    [
-        when(fault != 0, 50, fault, 0),
-        when(settings.frames & (done & !live), 59, 0, 0),
-        z,
-        z,
-        z,
-        z,
-    ]
+    let mut rows = [none(); MOST_RECORDS];
+    rows[0] = when(fault != 0, 50, fault, 0);
+    rows[1] = when(settings.frames & (done & !live), 59, 0, 0);
+    rows
 }

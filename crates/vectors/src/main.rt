@@ -2,6 +2,7 @@
 // says how they are written. Document 01, "At the edges": "The rest, and the differential runs, are done by a program."
 ghost use Prim.Native.Nat.{_+_, _<_, _≤_};
 ghost use lib.ListN.{length};
+ghost use Rattle.records.specs.Records.{recordWidth, mostRecords};
 ghost use Rattle.cdp_running.specs.Tracker.{Good};
 use cdp_running::Told;
 use cdp_running::Tracker;
@@ -14,12 +15,10 @@ use words::little_endian::get32;
 use words::little_endian::get64;
 
 // The most calls of a file.
-const MOST: u64 = 65536;
+const MAX_CALLS: u64 = 65536;
 
-// The numbers of a record, and the most records of a word.
-const RECORD: usize = 4;
-
-const RECORDS: u8 = 6;
+// The most numbers that the records of a word have.
+const MOST_NUMBERS: usize = records::MOST_RECORDS * records::RECORD_WIDTH;
 
 // What comes next in a file. Whole: as many bytes as were asked for; behind them stand zeros.
 struct Part {
@@ -89,8 +88,8 @@ fn packet_of(b: &[u8; 22]) -> Packet {
 }
 
 // Are the numbers of a record those that the bytes have?
-fn same_numbers(b: &[u8; 22], out: &[u64; 24], at: usize) -> bool
-    requires { ⌜ at + 4 ≤ 24 ⌝ }
+fn same_numbers(b: &[u8; 22], out: &[u64; MOST_NUMBERS], at: usize) -> bool
+    requires { ⌜ at + recordWidth ≤ mostRecords * recordWidth ⌝ }
 {
     let there = (out[at] == get64(b, 0)) & (out[at + 1] == get16(b, 8));
     let numbers = (out[at + 2] == get32(b, 10)) & (out[at + 3] == get32(b, 14));
@@ -98,17 +97,17 @@ fn same_numbers(b: &[u8; 22], out: &[u64; 24], at: usize) -> bool
 }
 
 // Is record i the one that the file has next?
-fn same_record(fd: i32, out: &[u64; 24], i: usize) -> bool
-    requires { ⌜ i < 6 ⌝ }
+fn same_record(fd: i32, out: &[u64; MOST_NUMBERS], i: usize) -> bool
+    requires { ⌜ i < mostRecords ⌝ }
 {
     let next = take(fd, 18);
     let b = next.bytes;
-    let same = same_numbers(&b, out, RECORD * i);
+    let same = same_numbers(&b, out, records::RECORD_WIDTH * i);
     next.whole & same
 }
 
-fn same_records(fd: i32, out: &[u64; 24], n: u8) -> bool {
-    if RECORDS < n {
+fn same_records(fd: i32, out: &[u64; MOST_NUMBERS], n: u8) -> bool {
+    if records::MOST_RECORDS < n as usize {
         return false;
     }
     let mut same = true;
@@ -143,7 +142,7 @@ fn same_frame(fd: i32, told: FrameTold, frame: u8) -> bool {
 }
 
 // Is the answer to a word the one that the file has next: kind, guessed, frame, number of records, and what hangs on these?
-fn same_answer(fd: i32, told: Told, out: &[u64; 24]) -> bool {
+fn same_answer(fd: i32, told: Told, out: &[u64; MOST_NUMBERS]) -> bool {
     let next = take(fd, 4);
     let b = next.bytes;
     match told {
@@ -171,7 +170,7 @@ fn word(t: Tracker, fd: i32) -> Went
 {
     let mut bytes = [0u8; 10];
     let got = io::read_full(fd, &mut bytes);
-    let mut out = [0u64; 24];
+    let mut out = [0u64; MOST_NUMBERS];
     let a = t.word(&bytes[..got], &mut out);
     let told = a.told;
     let after = a.tracker;
@@ -280,7 +279,7 @@ fn replay(fd: i32) -> Tally {
         words: 0,
         differ: 0,
     };
-    for n in 0..MOST {
+    for n in 0..MAX_CALLS {
         let went = step(t, fd);
         let after = went.tracker;
         t = after;

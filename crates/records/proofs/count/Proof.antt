@@ -8,17 +8,17 @@ use Prim.Native.Nat.{_≤_, _-_}
 use lib.ListN.{take, length}
 use lib.Seq.{take-all}
 use Rattle.records.specs.declared.Row.{Row}
-use Rattle.records.specs.Records.{none, count}
+use Rattle.records.specs.Records.{mostRecords, none, count}
 use Rattle.records.proofs.Given.{count-more}
 use native.Mathlib.Omega.{arith}
 use Rattle.records.proofs.count.Statement.{statement}
 use Rattle.records.proofs.count.Tie as tie
 
 abbrev Inv-loop : tie.InvT-loop
-Inv-loop rows n₀ i₀ n i = (i ≤ 6) × ((n ≤ i) × (n ≡ count (take i rows)))
+Inv-loop rows n₀ i₀ n i = (i ≤ mostRecords) × ((n ≤ i) × (n ≡ count (take i rows)))
 
 abbrev μ-loop : tie.MeasureT-loop
-μ-loop rows n₀ i₀ n i = 6 - i
+μ-loop rows n₀ i₀ n i = mostRecords - i
 
 loop-holds : tie.Need-loop-holds Inv-loop μ-loop
 unfolding count

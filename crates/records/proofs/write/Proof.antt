@@ -6,6 +6,7 @@ use mathlib.Core.Logic.{⊎-elim}
 use mathlib.Core.Path.{_≡_}
 use Prim.Native.Nat.{_+_, _-_, _≤_}
 use lib.ListN.{length}
+use Rattle.records.specs.Records.{recordWidth, mostRecords}
 use Rattle.records.proofs.Given.{counted}
 use Rattle.records.proofs.Writing.{Going, start, skip, has-room, more, tail-long, refused, written}
 use native.Mathlib.Omega.{arith}
@@ -16,7 +17,7 @@ abbrev Inv-loop : tie.InvT-loop
 Inv-loop out₀ position rows n used₀ i₀ out used i = Going position rows out₀ out used i
 
 abbrev μ-loop : tie.MeasureT-loop
-μ-loop out₀ position rows n used₀ i₀ out used i = 6 - i
+μ-loop out₀ position rows n used₀ i₀ out used i = mostRecords - i
 
 returns : tie.Need-returns Inv-loop μ-loop
 returns c =
@@ -28,7 +29,7 @@ loop-holds c =
     let s = c .before .before .before in
     start (s .args .position) (s .args .t3) (now (s .args .out)) (omega (arith, counted (s .args .position) (s .args .t3), c .before .count .ensures))
 
-fits : (c : tie.Then2 Inv-loop μ-loop) → c .before .before .before .loop .used + 4 ≤ length (c .before .before .before .loop .out)
+fits : (c : tie.Then2 Inv-loop μ-loop) → c .before .before .before .loop .used + recordWidth ≤ length (c .before .before .before .loop .out)
 fits c = has-room (c .before .before .before .loop .inv) (search needs) (c .if2 .taken)
 
 mul-put : tie.Need-mul-put Inv-loop μ-loop
@@ -41,7 +42,7 @@ part-put-start : tie.Need-part-put-start Inv-loop μ-loop
 part-put-start c = omega (arith, fits c)
 
 put-requires : tie.Need-put-requires Inv-loop μ-loop
-put-requires c κs = tail-long (c .before .before .before .before .loop .used) 4 (c .before .before .before .before .loop .out) (fits (c .before))
+put-requires c κs = tail-long (c .before .before .before .before .loop .used) recordWidth (c .before .before .before .before .loop .out) (fits (c .before))
 
 add-used : tie.Need-add-used Inv-loop μ-loop
 add-used c = omega (arith, fits (c .before .before .before .before), c .before .before .before .before .before .before .before .before .before .before .before .good .0)

@@ -4,11 +4,12 @@ use borrow.Author.Needs.{needs}
 use denote.Ref.{now}
 use Prim.Native.Nat.{_≤_}
 use native.Mathlib.Omega.{arith}
+use Rattle.records.specs.Records.{mostRecords}
 use Rattle.report.proofs.Steps.{as-word, told-few, word-printed}
 use Rattle.report.proofs.word_step.Statement.{statement}
 use Rattle.report.proofs.word_step.Tie as tie
 
-few : (c : tie.After-records-told) → c .records-told .result ≤ 6
+few : (c : tie.After-records-told) → c .records-told .result ≤ mostRecords
 few c = omega (arith, c .records-told .ensures, told-few (c .before .before .before .before .before .before .before .before .before .args .r .tracker) _ (c .before .before .before .word .ensures) (search needs) (c .before .before .before .word .kept .1 .1 .0))
 
 put-lines-requires : tie.Need-put-lines-requires

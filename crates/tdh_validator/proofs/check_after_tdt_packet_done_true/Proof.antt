@@ -5,7 +5,17 @@ use Rattle.tdh_validator.proofs.check_after_tdt_packet_done_true.Statem
 use Rattle.tdh_validator.proofs.check_after_tdt_packet_done_true.Tie as tie
 
 returns : tie.Need-returns
-returns c = simp (c .check-trigger-interval .ensures, c .before .when2 .ensures, c .before .before .before .before .before .when .ensures, c .before .before .before .before .before .before .none .ensures, c .before .before .before .before .before .before .before .trigger-bc .ensures, c .before .before .before .before .before .before .before .before .sanity-check .ensures)
+returns c =
+    let c1 = c .before in
+    let c5 = c1 .before .before .before .before in
+    let c6 = c5 .before in
+    let c7 = c6 .before in
+    let c8 = c7 .before in
+    simp (c .check-trigger-interval .ensures, c1 .when2 .ensures, c5 .when .ensures, c6 .none .ensures, c7 .trigger-bc .ensures, c8 .sanity-check .ensures)
 
 pub check-after-tdt-packet-done-true-spec : {M : Type 1} → statement M
-check-after-tdt-packet-done-true-spec = tie.close (tie.spec (λ c. search needs) (λ c. search needs) (λ c. search needs) (λ c. search needs) (λ c. search needs) (λ c. search needs) (λ c. search needs) (λ c. search needs) returns)
+check-after-tdt-packet-done-true-spec =
+    tie.close
+    (tie.spec
+    (λ c. search needs) (λ c. search needs) (λ c. search needs) (λ c. search needs) (λ c. search needs) (λ c. search needs) (λ c. search needs)
+    (λ c. search needs) (λ c. search needs) (λ c. search needs) (λ c. search needs) returns)

@@ -2,11 +2,12 @@
 -- Assumes nothing.
 use borrow.Author.Needs.{needs}
 use Prim.Native.Nat.{_≤_, _-_}
+use Rattle.records.specs.Records.{mostRecords}
 use Rattle.vectors.proofs.same_records.Statement.{statement}
 use Rattle.vectors.proofs.same_records.Tie as tie
 
 abbrev Inv-loop : tie.InvT-loop
-Inv-loop fd out n same₀ i₀ i-end same i = (i ≤ i-end) × (i-end ≤ 6)
+Inv-loop fd out n same₀ i₀ i-end same i = (i ≤ i-end) × (i-end ≤ mostRecords)
 
 abbrev μ-loop : tie.MeasureT-loop
 μ-loop fd out n same₀ i₀ i-end same i = i-end - i
