@@ -14,7 +14,10 @@ use Rattle.records.specs.Records.{Record, exceed}
 use Rattle.stored.specs.declared.FrameTold.{FrameTold}
 use Rattle.cdp_running.specs.declared.Tracker.{Tracker}
 use Rattle.cdp_running.specs.Next.{nextOf}
-use Rattle.cdp_running.specs.Word.{takenAs, recordsOf, Outcome, taken, refused, takenOf, wordCall}
+use Rattle.cdp_running.specs.Word.{takenAs, recordsOf, TakenWord, Outcome, taken, refused, takenOf, wordCall}
+
+same : {x y : TakenWord} → taken x ≡ taken y → x ≡ y
+same e = cc
 
 -- None of the four refusals holds.
 pub record Admitted (t : Tracker) (bytes : List ℕ) (places : ℕ) : Type 0 where
@@ -27,8 +30,7 @@ pub admitted-taken : (t : Tracker) (bytes : List ℕ) (places : ℕ) → Admitte
 unfolding wordCall
 admitted-taken t bytes places a = simp (eq-eqb _ _ (a .ten), a .accepted, lt-leb _ _ (a .low), a .fits)
 
-module _ (t : Tracker) (bytes : List ℕ) (places : ℕ) {next : Tracker} {kind : ItsPayloadWord} {guessed : Bool} {records : List Record} {frame : FrameTold} {lanes : ℕ}
-    (e : wordCall t bytes places ≡ taken next kind guessed records frame lanes) where
+module _ (t : Tracker) (bytes : List ℕ) (places : ℕ) {x : TakenWord} (e : wordCall t bytes places ≡ taken x) where
   pub taken-admitted : Admitted t bytes places
   unfolding wordCall
   taken-admitted =
@@ -36,7 +38,7 @@ module _ (t : Tracker) (bytes : List ℕ) (places : ℕ) {next : Tracker} {kind 
       record { ten = eqb-true _ _ (a .0); accepted = a .1 .0; low = leb-false _ _ (a .1 .1 .0); fits = a .1 .1 .1 }
     where
       at : (a b c d : Bool)
-          → cond a (cond b (cond c (refused 3) (cond d (refused 4) (takenOf t (wordOf bytes)))) (refused 2)) (refused 1) ≡ taken next kind guessed records frame lanes
+          → cond a (cond b (cond c (refused 3) (cond d (refused 4) (takenOf t (wordOf bytes)))) (refused 2)) (refused 1) ≡ taken x
           → (a ≡ true) × ((b ≡ true) × ((c ≡ false) × (d ≡ false)))
       at true true false false q = (refl, (refl, (refl, refl)))
       at true true false true q = (cc, (cc, (cc, cc)))
@@ -44,13 +46,14 @@ module _ (t : Tracker) (bytes : List ℕ) (places : ℕ) {next : Tracker} {kind 
       at true false c d q = (cc, (cc, (cc, cc)))
       at false b c d q = (cc, (cc, (cc, cc)))
 
-  pub taken-is : takenOf t (wordOf bytes) ≡ taken next kind guessed records frame lanes
+  pub taken-is : takenOf t (wordOf bytes) ≡ taken x
   taken-is = sym (admitted-taken t bytes places taken-admitted) ∙ e
 
   -- The tracker after it, and its records.
-  pub next-is : next ≡ nextOf t (takenAs t (wordOf bytes)) (wordOf bytes)
+  pub next-is : x .next ≡ nextOf t (takenAs t (wordOf bytes)) (wordOf bytes)
   unfolding takenOf
-  next-is = next-of taken-is
-    where
-      next-of : {n n′ : Tracker} {k k′ : ItsPayloadWord} {g g′ : Bool} {r r′ : List Record} {f f′ : FrameTold} {l l′ : ℕ} → taken n k g r f l ≡ taken n′ k′ g′ r′ f′ l′ → n′ ≡ n
-      next-of q = cc
+  next-is = ap (λ (y : TakenWord). y .next) (sym (same taken-is))
+
+  pub records-are : x .records ≡ recordsOf t (wordOf bytes)
+  unfolding takenOf
+  records-are = ap (λ (y : TakenWord). y .records) (sym (same taken-is))

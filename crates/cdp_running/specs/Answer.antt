@@ -7,7 +7,7 @@ use Rattle.payload_fsm.specs.Kinds.{kindNumber}
 use Rattle.stored.specs.declared.FrameTold.{FrameTold}
 use Rattle.stored.specs.declared.FrameTold.the-variants as F
 use Rattle.cdp_running.specs.declared.Told.{Told}
-use Rattle.cdp_running.specs.declared.Told.the-variants.{Taken, Refused}
+use Rattle.cdp_running.specs.declared.Told.the-variants as T
 
 pub record Numbers : Type 0 where
   pub refusal : ℕ
@@ -37,15 +37,15 @@ frameEnd (F.Closed start end) = end
 
 -- "A refusal returns its number and zeros"; of a word that was taken the refusal is 0.
 abbrev pub numbersOf : Told → Numbers
-numbersOf (Taken kind guessed records frame lanes) =
+numbersOf (T.Taken x) =
     record {
       refusal = 0;
-      kind = kindNumber kind;
-      guessed = cond guessed 1 0;
-      records = records;
-      frame = frameNumber frame;
-      start = frameStart frame;
-      end = frameEnd frame;
-      lanes = lanes;
+      kind = kindNumber (x .kind);
+      guessed = cond (x .guessed) 1 0;
+      records = x .records;
+      frame = frameNumber (x .frame);
+      start = frameStart (x .frame);
+      end = frameEnd (x .frame);
+      lanes = x .lanes;
     }
-numbersOf (Refused n) = record { refusal = n; kind = 0; guessed = 0; records = 0; frame = 0; start = 0; end = 0; lanes = 0 }
+numbersOf (T.Refused n) = record { refusal = n; kind = 0; guessed = 0; records = 0; frame = 0; start = 0; end = 0; lanes = 0 }

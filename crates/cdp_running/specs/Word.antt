@@ -23,7 +23,8 @@ use Rattle.validators.specs.Ddw as Ddw
 use Rattle.validators.specs.DataWords as DataWords
 use Rattle.tdh_validator.specs.Tdh as Tdh
 use Rattle.cdp_running.specs.declared.Tracker.{Tracker}
-use Rattle.cdp_running.specs.declared.Told.the-variants.{Taken, Refused}
+use Rattle.cdp_running.specs.declared.Taken.{Taken}
+use Rattle.cdp_running.specs.declared.Told.the-variants as T
 use Rattle.cdp_running.specs.declared.WordAnswer.{WordAnswer}
 use Rattle.cdp_running.specs.Tracker.{Good}
 use Rattle.cdp_running.specs.Next.{nextOf}
@@ -54,25 +55,47 @@ positionNow t = positionOf (t .packet) (t .count)
 unfoldable pub recordsOf : Tracker → Word → List Record
 recordsOf t w = given (positionNow t) (rowsOf t (takenAs t w) w)
 
--- What a word call comes to: the word is taken, with the tracker after it and all that is told of it, or it is refused by a number.
+-- What a word call comes to: the word is taken, with the tracker after it, its records and all that is told of it, or it is refused by a number.
+pub record TakenWord : Type 0 where
+  pub next : Tracker
+  pub records : List Record
+  pub kind : ItsPayloadWord
+  pub guessed : Bool
+  pub frame : FrameTold
+  pub lanes : ℕ
+
 pub data Outcome : Type 0 where
-  taken : Tracker → ItsPayloadWord → Bool → List Record → FrameTold → ℕ → Outcome
+  taken : TakenWord → Outcome
   refused : ℕ → Outcome
 
+-- The answer to a word that was taken as `a` says, with so many records.
 abbrev pub takenAnswer : Tracker → Advanced → Word → ℕ → WordAnswer
 takenAnswer t a w records =
     record {
       tracker = nextOf t a w;
       told =
-          Taken (a .word) (a .guessed) records (frameTold (t .settings .frames) (a .word) w (positionNow t) (t .frame))
-          (lanesTold (a .word) w);
+          T.Taken
+          (record {
+            kind = a .word;
+            guessed = a .guessed;
+            records = records;
+            frame = frameTold (t .settings .frames) (a .word) w (positionNow t) (t .frame);
+            lanes = lanesTold (a .word) w;
+          });
     }
 
 unfoldable pub takenOf : Tracker → Word → Outcome
 takenOf t w =
     let a = takenAs t w in
-    taken (nextOf t a w) (a .word) (a .guessed) (recordsOf t w) (frameTold (t .settings .frames) (a .word) w (positionNow t) (t .frame))
-    (lanesTold (a .word) w)
+    taken
+    (record {
+      next = nextOf t a w;
+      records = recordsOf t w;
+      kind = a .word;
+      guessed = a .guessed;
+      frame = frameTold (t .settings .frames) (a .word) w (positionNow t) (t .frame);
+      lanes = lanesTold (a .word) w;
+    })
 
 -- "Word order: 1, 2, 3, 4." Given exactly when: "word not 10 bytes", "no packet accepted yet", "4,096 words taken in this packet", "this word's records
 -- exceed the buffer's room".
@@ -85,15 +108,18 @@ wordCall t bytes places =
     (refused 2))
     (refused 1)
 
+-- What is told of a word that was taken.
+abbrev pub toldOf : TakenWord → Taken
+toldOf x = record { kind = x .kind; guessed = x .guessed; records = length (x .records); frame = x .frame; lanes = x .lanes }
+
 -- The answer: "A refusal returns its number and zeros", and the tracker as it was.
 abbrev pub answerOf : Tracker → Outcome → WordAnswer
-answerOf t (taken next kind guessed records frame lanes) =
-    record { tracker = next; told = Taken kind guessed (length records) frame lanes }
-answerOf t (refused n) = record { tracker = t; told = Refused n }
+answerOf t (taken x) = record { tracker = x .next; told = T.Taken (toldOf x) }
+answerOf t (refused n) = record { tracker = t; told = T.Refused n }
 
--- The records that stand in the buffer, and the tracker after the call.
+-- The records that stand in the buffer.
 abbrev pub recordsIn : Outcome → List Record
-recordsIn (taken next kind guessed records frame lanes) = records
+recordsIn (taken x) = x .records
 recordsIn (refused n) = []
 
 -- What a word call gives, from the tracker, the bytes and the buffer.

@@ -6,6 +6,7 @@ ghost use Rattle.packet.specs.Settings.{settingsOf};
 ghost use Rattle.packet.specs.Packet.{inRange, maxPosition, maxWords, positionOf};
 ghost use Rattle.records.specs.Records.{padded};
 ghost use Rattle.cdp_running.specs.Tracker.{Good, startOf, resetOf, PacketPost};
+ghost use Rattle.cdp_running.specs.Answer.{numbersOf};
 ghost use Rattle.cdp_running.specs.Word.{positionNow, rowsOf, Outcome, answerOf, WordPost};
 
 mod next;
@@ -47,16 +48,41 @@ pub struct Tracker {
     pub frame: Frame,
 }
 
+// What is told of a word that was taken.
+pub struct Taken {
+    pub kind: ItsPayloadWord,
+    pub guessed: bool,
+    pub records: u64,
+    pub frame: FrameTold,
+    pub lanes: u32,
+}
+
 // What a word call tells: of a word that was taken, or the number of the refusal.
 pub enum Told {
-    Taken {
-        kind: ItsPayloadWord,
-        guessed: bool,
-        records: u64,
-        frame: FrameTold,
-        lanes: u32,
-    },
+    Taken(Taken),
     Refused(u8),
+}
+
+impl Told {
+    // How many records were written.
+    pub fn records(self) -> u64
+        ensures { λ r. ⌜ r ≡ numbersOf self .records ⌝ }
+    {
+        match self {
+            Told::Taken(taken) => taken.records,
+            Told::Refused(_) => 0,
+        }
+    }
+
+    // The number of the refusal, or 0.
+    pub fn refusal(self) -> u8
+        ensures { λ r. ⌜ r ≡ numbersOf self .refusal ⌝ }
+    {
+        match self {
+            Told::Taken(_) => 0,
+            Told::Refused(n) => n,
+        }
+    }
 }
 
 pub struct WordAnswer {

@@ -3,6 +3,7 @@ ghost use mathlib.Core.Path.{_≡_};
 ghost use Rattle.cdp_running.specs.Tracker.{Good};
 ghost use Rattle.cdp_running.specs.Word.{takenAnswer};
 ghost use Rattle.cdp_running.specs.Next.{nextOf};
+use crate::Taken;
 use crate::Told;
 use crate::Tracker;
 use crate::WordAnswer;
@@ -46,12 +47,12 @@ pub(crate) fn taken(t: Tracker, a: Advanced, word: Word, records: u64) -> WordAn
     let here = t.here();
     WordAnswer {
         tracker: t.after(a, word),
-        told: Told::Taken {
+        told: Told::Taken(Taken {
             kind: kind,
             guessed: a.guessed,
             records: records,
             frame: stored::next::frame_told(t.settings.frames, kind, word, here, t.frame),
             lanes: stored::next::lanes_told(kind, word),
-        },
+        }),
     }
 }

@@ -1,7 +1,6 @@
 // The edges of document 01 that are no theorems: what benchcheck prints of the files c00, c01 .. of data/, and the calls that no file can make.
 // tests/make/edges.py makes the files and, from 01 by hand, what is to be printed; it says what each case is about.
 ghost use Rattle.cdp_running.specs.Tracker.{Good};
-use cdp_running::Told;
 use cdp_running::Tracker;
 use libc::STDOUT_FILENO;
 use packet::Packet;
@@ -92,20 +91,6 @@ fn packet_taken(running: bool, period: u32, page: u16) -> Tracker
     packet_by_rule(running, period, Rule::One, page)
 }
 
-// The refusal of a word, or 0.
-fn refusal(told: Told) -> u64 {
-    match told {
-        Told::Taken {
-            kind: _,
-            guessed: _,
-            records: _,
-            frame: _,
-            lanes: _,
-        } => 0,
-        Told::Refused(n) => n as u64,
-    }
-}
-
 // "4,096th word accepted, 4,097th refused 3": data words in one packet, up to a refusal.
 fn show_full() {
     let mut t = packet_taken(true, 198, 0);
@@ -114,7 +99,7 @@ fn show_full() {
     while n < 5000 {
         let answer = t.word(b"\0\0\0\0\0\0\0\0\0\x20", &mut out);
         let told = answer.told;
-        let refused = refusal(told);
+        let refused = told.refusal() as u64;
         if refused != 0 {
             text(b"words ");
             number(n);
@@ -136,7 +121,7 @@ fn show_room() {
     let first = t.word(b"\0\0\0\x10\0\0\0\0\0\xE0", &mut small);
     let told = first.told;
     text(b"refused ");
-    number(refusal(told));
+    number(told.refusal() as u64);
     let after = first.tracker;
     let mut out = [0u64; RECORD_WIDTH];
     after.word(b"\0\0\0\x10\0\0\0\0\0\xE0", &mut out);

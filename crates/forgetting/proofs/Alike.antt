@@ -43,9 +43,9 @@ words-alike (suc n) m t u b p q s hp hq =
         → Both m t u b (further o (λ next records. wordCalls n next (drop 10 b) (p - length records)))
         (further o′ (λ next records. wordCalls n next (drop 10 b) (q - length records)))
     at (both-refused x) more = record { kinds-agree = refl; same = s }
-    at (both-taken {next = next} {next′ = next′} {k = k} {g = g} {rs = rs} {rs′ = rs′} same low low′) more =
-        let rest = more _ next next′ (drop 10 b) (p - length rs) (q - length rs′) same (omega arith) (omega arith) in
-        record { kinds-agree = ap (λ (ks : List Kind). kind k g ∷ ks) (rest .kinds-agree); same = rest .same }
+    at (both-taken {x = x} {y = y} k g same low low′) more =
+        let rest = more _ (x .next) (y .next) (drop 10 b) (p - length (x .records)) (q - length (y .records)) same (omega arith) (omega arith) in
+        record { kinds-agree = λ i. kind (k i) (g i) ∷ rest .kinds-agree i; same = rest .same }
 
 -- What one call on two trackers comes to.
 pub record Agrees (m : Met) (t u : Tracker) (c : Call) : Type 0 where
@@ -117,9 +117,9 @@ call-agrees m t u (word b buffer) s h =
     at : {o o′ : Outcome} → wordCall t b (room buffer) ≡ o → Alike m t (wordOf b) o o′
         → (kindsIn (o ∷ []) ≡ kindsIn (o′ ∷ [])) × Same (meetsAll m (tookIn t b (o ∷ []))) (Word.answerOf t o .tracker) (Word.answerOf u o′ .tracker)
     at e (both-refused x) = (refl, s)
-    at e (both-taken {next = next} {next′ = next′} {k = k} same low low′) =
+    at e (both-taken {x = x} {y = y} k g same low low′) =
         let ten = take-all 10 b (le-of-eq (taken-admitted t b (room buffer) e .ten)) in
-        (refl, subst (λ (x : List ℕ). Same (meets m (record { word = wordOf x; kind = k; seen = t .seen })) next next′) (sym ten) same)
+        ((λ i. kind (k i) (g i) ∷ []), subst (λ (l : List ℕ). Same (meets m (record { word = wordOf l; kind = x .kind; seen = t .seen })) (x .next) (y .next)) (sym ten) same)
 call-agrees m t u (payload b buffer) s h =
     let both = payload-alike m t u b (room buffer) s h in
     record {

@@ -93,13 +93,13 @@ ofCall C.reset ks = 0 ∷ []
 
 word-kinds : (t : Tracker) (o : Outcome) (buffer : List ℕ) → kindsSeen (Show.word (toldNumbers (Word.answerOf t o .told)) buffer) ≡ ofWord (kindOf o ∷ [])
 unfolding ofWord
-word-kinds t (taken next k guessed records frame lanes) buffer = refl
+word-kinds t (taken x) buffer = refl
 word-kinds t (refused n) buffer = refl
 
 total-kinds : (t : Tracker) (os : List Outcome) → (total t os .refusal ≡ refusalIn (kindsIn os)) × (total t os .words ≡ takenIn (kindsIn os))
 unfolding total kindsIn refusalIn takenIn
 total-kinds t [] = (refl, refl)
-total-kinds t (taken next k guessed records frame lanes ∷ os) = let more = total-kinds next os in (more .0, ap (λ (n : ℕ). 1 + n) (more .1))
+total-kinds t (taken x ∷ os) = let more = total-kinds (x .next) os in (more .0, ap (λ (n : ℕ). 1 + n) (more .1))
 total-kinds t (refused n ∷ os) = (refl, refl)
 
 call-kinds : (t : Tracker) (c : Call) → kindsSeen (shown (answer t c)) ≡ ofCall c (kindsOf t c)

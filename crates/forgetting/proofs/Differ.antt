@@ -81,7 +81,7 @@ first-kind [] = 0
 pub counted : List Answer → ℕ
 counted [] = 0
 counted (packet n ∷ rest) = counted rest
-counted (word (Taken k guessed records frame lanes) buffer ∷ rest) = records + counted rest
+counted (word (Taken x) buffer ∷ rest) = x .records + counted rest
 counted (word (Refused n) buffer ∷ rest) = counted rest
 counted (payload words records n buffer ∷ rest) = records + counted rest
 counted (reset ∷ rest) = counted rest

@@ -23,7 +23,7 @@ use Rattle.stored.specs.Stored.{nextIhw, nextTdh, nextInternal, nextCdw}
 use Rattle.stored.proofs.Replace.{ihw-replaced, tdh-replaced, internal-replaced, cdw-replaced}
 use Rattle.cdp_running.specs.declared.Tracker.{Tracker}
 use Rattle.cdp_running.specs.Next.{nextOf}
-use Rattle.cdp_running.specs.Word.{takenAs, recordsOf, Outcome, taken, refused, takenOf, wordCall}
+use Rattle.cdp_running.specs.Word.{takenAs, recordsOf, TakenWord, Outcome, taken, refused, takenOf, wordCall}
 use Rattle.cdp_running.proofs.Fine.{few-records}
 use Rattle.forgetting.specs.Calls.{Took}
 use Rattle.forgetting.specs.Forget.{asIhw, asInternalTdh, asFirstCdw, some, HasMet}
@@ -120,9 +120,9 @@ same-next {m = m} {t = t} w s =
 -- Two outcomes of one word: refused alike, or taken alike.
 pub data Alike (m : Met) (t : Tracker) (w : Word) : Outcome → Outcome → Type 0 where
   both-refused : (n : ℕ) → Alike m t w (refused n) (refused n)
-  both-taken : {next next′ : Tracker} {k : ItsPayloadWord} {g : Bool} {rs rs′ : List Record} {f f′ : FrameTold} {l l′ : ℕ}
-      → Same (meets m (record { word = w; kind = k; seen = t .seen })) next next′ → length rs ≤ mostRecords → length rs′ ≤ mostRecords
-      → Alike m t w (taken next k g rs f l) (taken next′ k g rs′ f′ l′)
+  both-taken : {x y : TakenWord} → x .kind ≡ y .kind → x .guessed ≡ y .guessed
+      → Same (meets m (record { word = w; kind = x .kind; seen = t .seen })) (x .next) (y .next) → length (x .records) ≤ mostRecords → length (y .records) ≤ mostRecords
+      → Alike m t w (taken x) (taken y)
 
 -- Six places are room enough.
 six-fit : (t : Tracker) (w : Word) (places : ℕ) → mostRecords ≤ places → exceed (recordsOf t w) places ≡ false
@@ -133,7 +133,7 @@ taken-alike : {m : Met} {t u : Tracker} (w : Word) → Same m t u → Alike m t 
 unfolding takenOf
 taken-alike {m = m} {t = t} w s =
     subst (λ (x : Tracker). Alike m t w (takenOf t w) (takenOf x w)) (s .is)
-    (both-taken (same-next w (itself s)) (few-records t w) (few-records (other s) w))
+    (both-taken refl refl (same-next w (itself s)) (few-records t w) (few-records (other s) w))
 
 pub word-alike : {m : Met} {t u : Tracker} (b : List ℕ) (p q : ℕ) → Same m t u → (length b ≡ 10 → mostRecords ≤ p) → (length b ≡ 10 → mostRecords ≤ q)
     → Alike m t (wordOf b) (wordCall t b p) (wordCall u b q)

@@ -21,7 +21,7 @@ use Rattle.cdp_running.specs.declared.PacketAnswer.{PacketAnswer}
 use Rattle.cdp_running.specs.Tracker.{Good, acceptOf, resetOf, packetCall}
 use Rattle.cdp_running.specs.Next.{nextOf}
 use Rattle.cdp_running.specs.Word as Word
-use Rattle.cdp_running.specs.Word.{Outcome, taken, refused, wordCall, takenAs}
+use Rattle.cdp_running.specs.Word.{TakenWord, Outcome, taken, refused, wordCall, takenAs}
 use Rattle.cdp_running.proofs.Good.{good-accept, good-next, good-reset}
 use Rattle.cdp_running.proofs.Outcome.{taken-admitted, next-is}
 use Rattle.payload.specs.Payload.{Run, further, wordCalls, payloadCall, payloadCalls, stop, total}
@@ -50,8 +50,7 @@ walk-append (accepts p e first) rest = accepts p e (walk-append first rest)
 walk-append (takes w have low first) rest = takes w have low (walk-append first rest)
 
 -- Of a word call.
-word-walk : (t : Tracker) (b : List ℕ) (places : ℕ) {next u : Tracker} {k : ItsPayloadWord} {g : Bool} {rs : List Record} {f : FrameTold} {l : ℕ} {ws : List Word}
-    → wordCall t b places ≡ taken next k g rs f l → Walk next ws u → Walk t (wordOf b ∷ ws) u
+word-walk : (t : Tracker) (b : List ℕ) (places : ℕ) {x : TakenWord} {u : Tracker} {ws : List Word} → wordCall t b places ≡ taken x → Walk (x .next) ws u → Walk t (wordOf b ∷ ws) u
 word-walk t b places {u = u} {ws = ws} e rest =
     let a = taken-admitted t b places e in
     takes (wordOf b) (a .accepted) (a .low) (subst (λ (x : Tracker). Walk x ws u) (next-is t b places e) rest)
@@ -65,7 +64,7 @@ words-walk (suc n) t b places = at (wordCall t (take 10 b) places) (words-walk n
     at : (o : Outcome) → ((next : Tracker) (l : List ℕ) (p : ℕ) → Walk next (wordsIn (tookIn next l (wordCalls n next l p))) (total next (wordCalls n next l p) .tracker))
         → wordCall t (take 10 b) places ≡ o
         → let os = further o (λ next records. wordCalls n next (drop 10 b) (places - length records)) in Walk t (wordsIn (tookIn t b os)) (total t os .tracker)
-    at (taken next k g rs f l) rest e = word-walk t (take 10 b) places e (rest next (drop 10 b) (places - length rs))
+    at (taken x) rest e = word-walk t (take 10 b) places e (rest (x .next) (drop 10 b) (places - length (x .records)))
     at (refused m) rest e = here
 
 -- Of a payload.
@@ -91,9 +90,9 @@ call-walk t (packet p) _ = at (inRange p) refl
 call-walk t (word b buffer) _ = at (wordCall t b (room buffer)) refl
   where
     at : (o : Outcome) → wordCall t b (room buffer) ≡ o → Walk t (wordsIn (tookIn t b (o ∷ []))) (Word.answerOf t o .tracker)
-    at (taken next k g rs f l) e =
+    at (taken x) e =
         let ten = take-all 10 b (le-of-eq (taken-admitted t b (room buffer) e .ten)) in
-        subst (λ (x : List ℕ). Walk t (wordOf x ∷ []) next) (sym ten) (word-walk t b (room buffer) e here)
+        subst (λ (l : List ℕ). Walk t (wordOf l ∷ []) (x .next)) (sym ten) (word-walk t b (room buffer) e here)
     at (refused n) e = here
 call-walk t (payload b buffer) _ =
     subst (λ (r : Run). Walk t (wordsIn (tookIn t b (payloadCalls t b (room buffer)))) (r .tracker)) (sym (payload-total t b (room buffer)))

@@ -75,7 +75,7 @@ pub data Kind : Type 0 where
   refusal : ℕ → Kind
 
 abbrev pub kindOf : Outcome → Kind
-kindOf (taken next k guessed records frame lanes) = kind k guessed
+kindOf (taken x) = kind (x .kind) (x .guessed)
 kindOf (refused n) = refusal n
 
 unfoldable pub kindsIn : List Outcome → List Kind
@@ -102,8 +102,8 @@ pub record Took : Type 0 where
 -- The words that word calls took, one after the other at the front of bytes.
 unfoldable pub tookIn : Tracker → List ℕ → List Outcome → List Took
 tookIn t bytes [] = []
-tookIn t bytes (taken next k guessed records frame lanes ∷ os) =
-    record { word = wordOf (take wordBytes bytes); kind = k; seen = t .seen } ∷ tookIn next (drop wordBytes bytes) os
+tookIn t bytes (taken x ∷ os) =
+    record { word = wordOf (take wordBytes bytes); kind = x .kind; seen = t .seen } ∷ tookIn (x .next) (drop wordBytes bytes) os
 tookIn t bytes (refused n ∷ os) = []
 
 abbrev pub tookOf : Tracker → Call → List Took

@@ -66,7 +66,7 @@ module _ (t : Tracker) (k : Kept t) where
       at false e = k
 
   kept-taken : (bytes : List ℕ) (places : ℕ) (o : Outcome) → wordCall t bytes places ≡ o → Kept (Word.answerOf t o .tracker)
-  kept-taken bytes places (taken next kind guessed records frame lanes) e =
+  kept-taken bytes places (taken x) e =
       let w = wordOf bytes in
       let a = taken-admitted t bytes places e in
       subst Kept (sym (next-is t bytes places e)) (good-next t w (k .0) (a .accepted) (a .low), sized-next t w (k .1))
@@ -82,8 +82,8 @@ kept-words (suc n) t bytes places k = at (wordCall t (take 10 bytes) places) ref
   where
     at : (o : Outcome) → wordCall t (take 10 bytes) places ≡ o → ((u : Tracker) (b : List ℕ) (p : ℕ) → Kept u → Kept (wordsFrom n u b p .tracker))
         → Kept (wordsFrom (suc n) t bytes places .tracker)
-    at (taken next kind guessed records frame lanes) e more =
-        subst (λ (r : Run). Kept (r .tracker)) (sym (step-taken n t bytes places e)) (more next _ _ (kept-taken t k (take 10 bytes) places _ e))
+    at (taken x) e more =
+        subst (λ (r : Run). Kept (r .tracker)) (sym (step-taken n t bytes places e)) (more (x .next) _ _ (kept-taken t k (take 10 bytes) places _ e))
     at (refused number) e more = subst (λ (r : Run). Kept (r .tracker)) (sym (step-refused n t bytes places e)) k
 
 pub kept-payload : (t : Tracker) (bytes : List ℕ) (places : ℕ) → Kept t → Kept (payloadCall t bytes places .tracker)

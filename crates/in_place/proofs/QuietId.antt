@@ -121,15 +121,23 @@ module _ (t : Tracker) (w : Word) (among : amongData (t .fsm .state) ≡ true) (
 -- The word call on it.
 module _ (t : Tracker) (bytes : List ℕ) (ten : length bytes ≡ 10) (have : t .accepted ≡ true) (low : t .count < maxWords) (among : amongData (t .fsm .state) ≡ true)
     (q : quietId (checkedLanes (t .settings .running) (t .ihw .lanes)) (idOf (wordOf bytes)) ≡ true) where
-  abbrev by : Advanced → Outcome
-  by a =
-      taken-as (quietNext t 1) (a .word) (a .guessed) [] (frameTold (t .settings .frames) (a .word) (wordOf bytes) (positionNow t) (t .frame))
-      (lanesTold (a .word) (wordOf bytes))
+  abbrev by : Tracker → Advanced → Outcome
+  by next a =
+      taken-as
+      (record {
+        next = next;
+        records = [];
+        kind = a .word;
+        guessed = a .guessed;
+        frame = frameTold (t .settings .frames) (a .word) (wordOf bytes) (positionNow t) (t .frame);
+        lanes = lanesTold (a .word) (wordOf bytes);
+      })
 
-  pub quiet-call : (places : ℕ) → wordCall t bytes places ≡ taken-as (quietNext t 1) K.DataWord false [] F.Nothing 0
+  pub quiet-call : (places : ℕ) → wordCall t bytes places
+      ≡ taken-as (record { next = quietNext t 1; records = []; kind = K.DataWord; guessed = false; frame = F.Nothing; lanes = 0 })
   quiet-call places =
       let w = wordOf bytes in
       let a = takenAs t w in
       silent-call t bytes ten have low (quiet-silent t w among q) places
-      ∙ (λ i. taken-as (quiet-next t w among q i) (a .word) (a .guessed) [] (frameTold (t .settings .frames) (a .word) w (positionNow t) (t .frame)) (lanesTold (a .word) w))
-      ∙ ap by (as-data w (quiet-is _ (idOf w) q .0) (t .fsm .state) among)
+      ∙ (λ i. by (quiet-next t w among q i) a)
+      ∙ ap (by (quietNext t 1)) (as-data w (quiet-is _ (idOf w) q .0) (t .fsm .state) among)

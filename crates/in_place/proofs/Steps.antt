@@ -38,7 +38,7 @@ use Rattle.tracker_array.specs.Array.{encodeOf}
 use Rattle.tracker_array.specs.Read.{place, isOn, trackerIn}
 use Rattle.tracker_array.specs.Good.{GoodArray}
 use Rattle.in_place.specs.Calls.{StepInPlace, WordInPlace}
-use Rattle.in_place.specs.Quiet.{quietId, checkedLanes, Passed}
+use Rattle.in_place.specs.Quiet.{quietId, checkedLanes, Passed, quietTold}
 use Rattle.in_place.proofs.QuietId.{quiet-call}
 use Rattle.in_place.proofs.Runs.{untouched}
 use Rattle.in_place.proofs.Storing.{counts}
@@ -103,10 +103,11 @@ pub as-stored : (t : Tracker) {a : Advanced} {w v : Word} {l : List ℕ} → a �
 as-stored t {a} {w} p q e = e ∙ (λ i. encodeOf (nextOf t (p i) w)) ∙ (λ i. encodeOf (nextOf t (takenAs t (q i)) (q i)))
 
 pub told-is : (t : Tracker) {a : Advanced} {w v : Word} {here n lanes : ℕ} {old : Frame} {frame : FrameTold} → a ≡ takenAs t w → w ≡ v → here ≡ positionNow t → old ≡ t .frame
-    → frame ≡ frameTold (t .settings .frames) (a .word) w here old → lanes ≡ lanesTold (a .word) w → T.Taken (a .word) (a .guessed) n frame lanes ≡ takenAnswer t (takenAs t v) v n .told
+    → frame ≡ frameTold (t .settings .frames) (a .word) w here old → lanes ≡ lanesTold (a .word) w
+    → T.Taken (record { kind = a .word; guessed = a .guessed; records = n; frame = frame; lanes = lanes }) ≡ takenAnswer t (takenAs t v) v n .told
 told-is t {a} {w} {v} {here} {n} p q h o f l =
-    (λ i. T.Taken (a .word) (a .guessed) n (f i) (l i))
-    ∙ (λ i. T.Taken (a .word) (a .guessed) n (frameTold (t .settings .frames) (a .word) w (h i) (o i)) (lanesTold (a .word) w))
+    (λ i. T.Taken (record { kind = a .word; guessed = a .guessed; records = n; frame = f i; lanes = l i }))
+    ∙ (λ i. T.Taken (record { kind = a .word; guessed = a .guessed; records = n; frame = frameTold (t .settings .frames) (a .word) w (h i) (o i); lanes = lanesTold (a .word) w }))
     ∙ (λ i. takenAnswer t (p i) w n .told)
     ∙ (λ i. takenAnswer t (takenAs t (q i)) (q i) n .told)
 
@@ -164,7 +165,7 @@ module _ (a bytes buffer : List ℕ) (h : GoodArray a) (ten : length bytes ≡ 1
 
   -- A quiet data word.
   pub word-quiet : ((i : ℕ) → getD bytes i 0 < 256) → {to : ℕ} {after : List ℕ} {told : Told} → Passed a bytes 0 to after → (to ≡ 0 → ⊥)
-      → told ≡ T.Taken K.DataWord false 0 F.Nothing 0 → WordInPlace a bytes buffer told after buffer
+      → told ≡ T.Taken quietTold → WordInPlace a bytes buffer told after buffer
   unfolding flat
   word-quiet byte {to} {after} {told} p some e =
       let q = p .quiet in

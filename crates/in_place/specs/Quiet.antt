@@ -2,7 +2,7 @@
 -- Assumes nothing.
 use Prim.Native.Nat.{ℕ, _+_, _-_, _*_, _/_, _%_, _≤_, _<_, _^_}
 use mathlib.Core.Path.{_≡_}
-use mathlib.Core.Bool.{Bool, true, cond, not, _&&_, _||_}
+use mathlib.Core.Bool.{Bool, true, false, cond, not, _&&_, _||_}
 use mathlib.Core.List.{List}
 use lib.Dec.{leb, ltb, eqb}
 use lib.ListN.{length, getD, set}
@@ -10,7 +10,10 @@ use Rattle.words.specs.Word.{wordBytes}
 use Rattle.words.specs.Lanes.{isLaneActive}
 use Rattle.data_ids.specs.DataIds.{isDataId, laneOf}
 use Rattle.packet.specs.Packet.{maxWords}
+use Rattle.payload_fsm.specs.declared.ItsPayloadWord.the-variants as K
 use Rattle.payload_fsm.specs.Step.{amongData}
+use Rattle.stored.specs.declared.FrameTold.the-variants as F
+use Rattle.cdp_running.specs.declared.Taken.{Taken}
 use Rattle.tracker_array.specs.Read.{place, isOn, trackerIn}
 
 abbrev pub quietId : ℕ → ℕ → Bool
@@ -46,6 +49,10 @@ pub record QuietTo (a bytes : List ℕ) (at to : ℕ) : Type 0 where
   pub room : place a 15 + n ≤ maxWords
   pub among : (n ≡ 0 → ⊥) → amongData (trackerIn a .fsm .state) ≡ true
   pub each : (i : ℕ) → i < n → quietId (checkedLanes (isOn (place a 1)) (place a 18)) (idAt bytes at i) ≡ true
+
+-- What is told of one.
+abbrev pub quietTold : Taken
+quietTold = record { kind = K.DataWord; guessed = false; records = 0; frame = F.Nothing; lanes = 0 }
 
 -- They are taken: they are counted, and data is seen.
 pub record Passed (a bytes : List ℕ) (at to : ℕ) (after : List ℕ) : Type 0 where

@@ -1,17 +1,16 @@
 // The calls on the numbers of a tracker themselves, in place, for a link that gives a word each 25 ns: what is read is read where it stands, and a word
 // stores only what its kind changes. Each call is proved equal to the same definition as the call on a tracker by value, which cdp_running and payload have.
 ghost use mathlib.Core.Path.{_≡_};
-ghost use mathlib.Core.Bool.{true, false};
+ghost use mathlib.Core.Bool.{true};
 ghost use Prim.Native.Nat.{_/_, _<_};
 ghost use lib.ListN.{length};
 ghost use Rattle.words.specs.Word.{wordBytes};
 ghost use Rattle.packet.specs.Packet.{maxWords};
-ghost use Rattle.payload_fsm.specs.declared.ItsPayloadWord.the-variants as K;
 ghost use Rattle.records.specs.Records.{recordWidth};
-ghost use Rattle.stored.specs.declared.FrameTold.the-variants as F;
 ghost use Rattle.cdp_running.specs.declared.Told.the-variants as T;
 ghost use Rattle.tracker_array.specs.Read.{place, isOn};
 ghost use Rattle.tracker_array.specs.Good.{GoodArray};
+ghost use Rattle.in_place.specs.Quiet.{quietTold};
 ghost use Rattle.in_place.specs.Calls.{PacketInPlace, ResetInPlace, WordInPlace, PayloadInPlace};
 
 mod quiet;
@@ -19,6 +18,7 @@ mod rows;
 mod step;
 mod stores;
 
+use cdp_running::Taken;
 use cdp_running::Told;
 use packet::MAX_WORDS;
 use payload_fsm::ItsPayloadWord;
@@ -69,15 +69,15 @@ pub fn reset(a: &mut [u64])
 
 // A data word that gave no record.
 fn quiet_told() -> Told
-    ensures { λ r. ⌜ r ≡ T.Taken K.DataWord false 0 F.Nothing 0 ⌝ }
+    ensures { λ r. ⌜ r ≡ T.Taken quietTold ⌝ }
 {
-    Told::Taken {
+    Told::Taken(Taken {
         kind: ItsPayloadWord::DataWord,
         guessed: false,
         records: 0,
         frame: FrameTold::Nothing,
         lanes: 0,
-    }
+    })
 }
 
 // A word that is not refused with 1, 2 or 3.
@@ -95,13 +95,13 @@ fn taken_word(a: &mut [u64], bytes: &[u8], out: &mut [u64]) -> Told
     let Written::Records(n) = step::step(a, bytes, 0, out) else {
         return Told::Refused(packet::REFUSED_ROOM);
     };
-    Told::Taken {
+    Told::Taken(Taken {
         kind: kind,
         guessed: guessed,
         records: n,
         frame: frame,
         lanes: next::lanes_told(kind, word),
-    }
+    })
 }
 
 // One word: its records stand at the front of out, whose rest stays. A refusal leaves both.

@@ -92,7 +92,7 @@ word-refused a bytes buffer {r} {after} {buffer-after} w h = at (decodeOf a) ref
 
     by : (t : Tracker) → decodeOf a ≡ Is t → (o : Outcome) → wordCall t bytes (room buffer) ≡ o
         → (after ≡ a) × ((buffer-after ≡ buffer) × (r ≡ toldNumbers (Refused (r .refusal))))
-    by t e (taken next kind guessed records frame lanes) c = absurd (h (ap (λ (x : WordNumbers). x .refusal) (simp (e, c) at (w .answer))))
+    by t e (taken x) c = absurd (h (ap (λ (x : WordNumbers). x .refusal) (simp (e, c) at (w .answer))))
     by t e (refused n) c = ((simp (e, c) at (w .tracker)) ∙ sym (decoded-encodes a t e), (simp (e, c) at (w .buffer-is), numbers n (simp (e, c) at (w .answer))))
 
     at : (d : Decoded) → decodeOf a ≡ d → (after ≡ a) × ((buffer-after ≡ buffer) × (r ≡ toldNumbers (Refused (r .refusal))))
@@ -113,7 +113,7 @@ none-taken zero t bytes places z = stopped t 0
 none-taken (suc n) t bytes places z = at (wordCall t (take 10 bytes) places) refl
   where
     at : (o : Outcome) → wordCall t (take 10 bytes) places ≡ o → Stays t (wordsFrom (suc n) t bytes places)
-    at (taken next kind guessed records frame lanes) e =
+    at (taken x) e =
         let some = ap (λ (r : Run). r .words) (step-taken n t bytes places e) in absurd (omega (arith, some, z))
     at (refused number) e = subst (Stays t) (sym (step-refused n t bytes places e)) (stopped t number)
 

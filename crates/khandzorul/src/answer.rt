@@ -64,22 +64,20 @@ pub(crate) fn told(told: Told) -> WordNumbers
     ensures { λ r. ⌜ r ≡ toldNumbers told ⌝ }
 {
     match told {
-        Told::Taken {
-            kind,
-            guessed,
-            records,
-            frame,
-            lanes,
-        } => WordNumbers {
-            refusal: 0,
-            kind: payload_fsm::kind_number(kind) as u64,
-            guessed: flag(guessed),
-            records: records,
-            frame: frame_number(frame),
-            start: frame_start(frame),
-            end: frame_end(frame),
-            lanes: lanes as u64,
-        },
+        Told::Taken(taken) => {
+            let kind = taken.kind;
+            let frame = taken.frame;
+            WordNumbers {
+                refusal: 0,
+                kind: payload_fsm::kind_number(kind) as u64,
+                guessed: flag(taken.guessed),
+                records: taken.records,
+                frame: frame_number(frame),
+                start: frame_start(frame),
+                end: frame_end(frame),
+                lanes: taken.lanes as u64,
+            }
+        }
         Told::Refused(n) => refused(n as u64),
     }
 }

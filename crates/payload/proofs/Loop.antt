@@ -2,7 +2,7 @@
 -- Assumes nothing.
 use Prim.Native.Nat.{ℕ, suc, _+_, _-_, _*_, _/_, _%_, _<_, _≤_}
 use mathlib.Core.Path.{_≡_, refl, sym, ap, _∙_}
-use mathlib.Core.Bool.{Bool, true, false}
+use mathlib.Core.Bool.{Bool, true, false, true≢false}
 use mathlib.Core.List.{List, [], _++_, append-nil}
 use native.Mathlib.Nat.{add-zero, sub-zero}
 use native.Mathlib.Omega.{arith}
@@ -10,17 +10,17 @@ use borrow.Author.Tests.{eq-eqb, ne-eqb}
 use borrow.Rule.Slice.PartMut.{putMid, midOf, same-len-mid}
 use lib.ListN.{length, take, drop, length-append, length-drop}
 use lib.Seq.{drop-drop}
-use Rattle.payload_fsm.specs.declared.ItsPayloadWord.{ItsPayloadWord}
 use Rattle.records.specs.Records.{Record, flat, room, over, recordWidth}
 use Rattle.records.proofs.Given.{flat-append, length-flat}
 use Rattle.records.proofs.Buffer.{mid-tail, lent-on, over-fits}
-use Rattle.stored.specs.declared.FrameTold.{FrameTold}
 use Rattle.cdp_running.specs.declared.Tracker.{Tracker}
-use Rattle.cdp_running.specs.declared.Told.the-variants.{Taken, Refused}
+use Rattle.cdp_running.specs.declared.Taken.{Taken}
+use Rattle.cdp_running.specs.declared.Told.{Told}
+use Rattle.cdp_running.specs.declared.Told.the-variants as T
 use Rattle.cdp_running.specs.declared.WordAnswer.{WordAnswer}
 use Rattle.cdp_running.specs.Tracker.{Good}
 use Rattle.cdp_running.specs.Word as W
-use Rattle.cdp_running.specs.Word.{Outcome, taken, refused, wordCall, recordsIn, WordPost}
+use Rattle.cdp_running.specs.Word.{TakenWord, Outcome, taken, refused, wordCall, recordsIn, WordPost}
 use Rattle.cdp_running.proofs.Outcome.{next-is}
 use Rattle.payload.specs.Payload.{Run, stop, preceded, onward, wordsFrom, payloadCall, answerOf, PayloadPost}
 use Rattle.payload.proofs.Run.{preceded-twice, preceded-none}
@@ -47,13 +47,27 @@ pub record Going (t : Tracker) (b out₀ out : List ℕ) (cur : Tracker) (at use
   pub comes : wordsFrom (length b / 10) t b (room out₀) ≡ preceded (at / 10) rs (runFrom b (room out₀ - length rs) cur at)
 
 -- From an answer back to the outcome.
-took : (t : Tracker) (o : Outcome) {r : WordAnswer} {kind : ItsPayloadWord} {guessed : Bool} {n : ℕ} {frame : FrameTold} {lanes : ℕ}
-    → r ≡ W.answerOf t o → r .told ≡ Taken kind guessed n frame lanes → (o ≡ taken (r .tracker) kind guessed (recordsIn o) frame lanes) × (n ≡ length (recordsIn o))
-took t (taken next kind guessed records frame lanes) e q = (cc (ap (λ (x : WordAnswer). x .tracker) e, ap (λ (x : WordAnswer). x .told) e), cc (ap (λ (x : WordAnswer). x .told) e))
-took t (refused m) e q = (cc, cc)
+record Took (o : Outcome) (r : WordAnswer) (n : ℕ) : Type 0 where
+  pub word : TakenWord
+  pub is : o ≡ taken word
+  pub next : r .tracker ≡ word .next
+  pub count : n ≡ length (recordsIn o)
 
-denied : (t : Tracker) (o : Outcome) {r : WordAnswer} {n : ℕ} → r ≡ W.answerOf t o → r .told ≡ Refused n → (o ≡ refused n) × (r .tracker ≡ t)
-denied t (taken next kind guessed records frame lanes) e q = (cc, cc)
+told-same : {x y : Taken} → T.Taken x ≡ T.Taken y → x ≡ y
+told-same e = cc
+
+took : (t : Tracker) (o : Outcome) {r : WordAnswer} {told : Taken} → r ≡ W.answerOf t o → r .told ≡ T.Taken told → Took o r (told .records)
+took t (taken x) e q =
+    let same = told-same (sym q ∙ ap (λ (r : WordAnswer). r .told) e) in
+    record { word = x; is = refl; next = ap (λ (r : WordAnswer). r .tracker) e; count = ap (λ (y : Taken). y .records) same }
+took t (refused m) e q = absurd (true≢false (ap isTaken (sym q ∙ ap (λ (r : WordAnswer). r .told) e)))
+  where
+    isTaken : Told → Bool
+    isTaken (T.Taken x) = true
+    isTaken (T.Refused n) = false
+
+denied : (t : Tracker) (o : Outcome) {r : WordAnswer} {n : ℕ} → r ≡ W.answerOf t o → r .told ≡ T.Refused n → (o ≡ refused n) × (r .tracker ≡ t)
+denied t (taken x) e q = (cc, cc)
 denied t (refused m) e q = (cc, cc)
 
 module _ {t : Tracker} {b out₀ : List ℕ} where
@@ -147,15 +161,19 @@ module _ {t : Tracker} {b out₀ : List ℕ} where
           ap (λ (j : ℕ). wordsFrom j cur (drop at b) places) left
           ∙ (λ i. onward cur (e i) (λ next records. preceded 1 records (wordsFrom ((length b - (at + 10)) / 10) next (drop-drop 10 at b i) (places - length records))))
 
-      pub next : {kind : ItsPayloadWord} {guessed : Bool} {n : ℕ} {frame : FrameTold} {lanes : ℕ} → length y ≡ length tail → r .told ≡ Taken kind guessed n frame lanes
+      onward-from : {n : ℕ} → Took outcome r n → length y ≡ length tail
           → Going t b out₀ (putMid used (length out - used) out y) (r .tracker) (at + 10) (used + recordWidth * n)
-      next kept told =
-          let k = took cur outcome (rw same-call at (w .answer)) told in
-          let have = ap (λ (x : Tracker). x .accepted) (next-is cur (take 10 (drop at b)) places (k .0)) ∙ g .ready .accepted in
+      onward-from k kept =
+          let have = ap (λ (x : Tracker). x .accepted) (k .next ∙ next-is cur (take 10 (drop at b)) places (k .is)) ∙ g .ready .accepted in
+          let runs = onwards (k .is) ∙ (λ i. preceded 1 (sym (ap recordsIn (k .is)) i) (runFrom b (places - length (sym (ap recordsIn (k .is)) i)) (sym (k .next) i) (at + 10))) in
           let ready : Ready (r .tracker) b (at + 10) = record { good = w .good; accepted = have; whole = g .ready .whole; within = word-left lt; between = omega (arith, g .ready .between) } in
-          further 1 (recordsIn outcome) ready (omega arith) (omega (arith, k .1)) after (same-len-mid used (length out - used) out y kept) (onwards (k .0))
+          further 1 (recordsIn outcome) ready (omega arith) (omega (arith, k .count)) after (same-len-mid used (length out - used) out y kept) runs
 
-      pub stopped : {n : ℕ} → r .told ≡ Refused n
+      pub next : {told : Taken} → length y ≡ length tail → r .told ≡ T.Taken told
+          → Going t b out₀ (putMid used (length out - used) out y) (r .tracker) (at + 10) (used + recordWidth * told .records)
+      next kept told = onward-from (took cur outcome (rw same-call at (w .answer)) told) kept
+
+      pub stopped : {n : ℕ} → r .told ≡ T.Refused n
           → PayloadPost t b out₀ (record { tracker = r .tracker; words = at / 10; records = used / 4; refusal = n }) (putMid used (length out - used) out y)
       stopped {n} told =
           let k = denied cur outcome (rw same-call at (w .answer)) told in

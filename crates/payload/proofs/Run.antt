@@ -17,12 +17,11 @@ use Rattle.stored.specs.declared.FrameTold.{FrameTold}
 use Rattle.stored.specs.Stored.{frameTold, lanesTold}
 use Rattle.cdp_running.specs.declared.Tracker.{Tracker}
 use Rattle.cdp_running.specs.Next.{nextOf}
-use Rattle.cdp_running.specs.Word.{takenAs, positionNow, rowsOf, recordsOf, taken, refused, takenOf, wordCall}
+use Rattle.cdp_running.specs.Word.{takenAs, positionNow, rowsOf, recordsOf, TakenWord, taken, refused, takenOf, wordCall}
 use Rattle.payload.specs.Payload.{Run, stop, preceded, wordsFrom}
 
-pub step-taken : (n : ℕ) (t : Tracker) (b : List ℕ) (places : ℕ) {next : Tracker} {kind : ItsPayloadWord} {guessed : Bool} {records : List Record} {frame : FrameTold} {lanes : ℕ}
-    → wordCall t (take 10 b) places ≡ taken next kind guessed records frame lanes
-    → wordsFrom (suc n) t b places ≡ preceded 1 records (wordsFrom n next (drop 10 b) (places - length records))
+pub step-taken : (n : ℕ) (t : Tracker) (b : List ℕ) (places : ℕ) {x : TakenWord} → wordCall t (take 10 b) places ≡ taken x
+    → wordsFrom (suc n) t b places ≡ preceded 1 (x .records) (wordsFrom n (x .next) (drop 10 b) (places - length (x .records)))
 unfolding wordsFrom
 step-taken n t b places e = simp e
 
@@ -41,9 +40,15 @@ preceded-none r = λ i. record { tracker = r .tracker; words = zero-add (r .word
 module _ (t : Tracker) (bytes : List ℕ) (ten : length bytes ≡ 10) (have : t .accepted ≡ true) (low : t .count < maxWords)
     (quiet : silent (rowsOf t (takenAs t (wordOf bytes)) (wordOf bytes)) ≡ true) where
   pub silent-call : (places : ℕ) → wordCall t bytes places
-      ≡ taken (nextOf t (takenAs t (wordOf bytes)) (wordOf bytes)) (takenAs t (wordOf bytes) .word) (takenAs t (wordOf bytes) .guessed) []
-      (frameTold (t .settings .frames) (takenAs t (wordOf bytes) .word) (wordOf bytes) (positionNow t) (t .frame))
-      (lanesTold (takenAs t (wordOf bytes) .word) (wordOf bytes))
+      ≡ taken
+      (record {
+        next = nextOf t (takenAs t (wordOf bytes)) (wordOf bytes);
+        records = [];
+        kind = takenAs t (wordOf bytes) .word;
+        guessed = takenAs t (wordOf bytes) .guessed;
+        frame = frameTold (t .settings .frames) (takenAs t (wordOf bytes) .word) (wordOf bytes) (positionNow t) (t .frame);
+        lanes = lanesTold (takenAs t (wordOf bytes) .word) (wordOf bytes);
+      })
   unfolding wordCall takenOf recordsOf
   silent-call places =
       let none = unheard (positionNow t) (rowsOf t (takenAs t (wordOf bytes)) (wordOf bytes)) quiet in

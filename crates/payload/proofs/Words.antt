@@ -17,7 +17,7 @@ pub calls-payload : {n : ℕ} {t : Tracker} {b : List ℕ} {places : ℕ} {os : 
 unfolding wordsFrom total
 calls-payload done = refl
 calls-payload (last {n = n} {t = t} {bytes = b} {places = places} e) = step-refused n t b places e
-calls-payload (more {n = n} {t = t} {bytes = b} {places = places} {records = rs} e rest) = step-taken n t b places e ∙ ap (preceded 1 rs) (calls-payload rest)
+calls-payload (more {n = n} {t = t} {bytes = b} {places = places} {x = x} e rest) = step-taken n t b places e ∙ ap (preceded 1 (x .records)) (calls-payload rest)
 
 -- A payload's words are such word calls, and no other list is.
 pub payload-calls : (n : ℕ) (t : Tracker) (b : List ℕ) (places : ℕ) → Calls n t b places (wordCalls n t b places)
@@ -27,15 +27,14 @@ payload-calls (suc n) t b places = at (wordCall t (take 10 b) places) (payload-c
   where
     at : (o : Outcome) → ((next : Tracker) (l : List ℕ) (p : ℕ) → Calls n next l p (wordCalls n next l p)) → wordCall t (take 10 b) places ≡ o
         → Calls (suc n) t b places (further o (λ next records. wordCalls n next (drop 10 b) (places - length records)))
-    at (taken next kind guessed rs frame lanes) rest e = more e (rest next (drop 10 b) (places - length rs))
+    at (taken x) rest e = more e (rest (x .next) (drop 10 b) (places - length (x .records)))
     at (refused number) rest e = last e
 
 pub only-calls : {n : ℕ} {t : Tracker} {b : List ℕ} {places : ℕ} {os : List Outcome} → Calls n t b places os → os ≡ wordCalls n t b places
 unfolding wordCalls
 only-calls done = refl
 only-calls (last e) = simp e
-only-calls (more {next = next} {kind = kind} {guessed = guessed} {records = rs} {frame = frame} {lanes = lanes} e rest) =
-    ap (λ (os : List Outcome). taken next kind guessed rs frame lanes ∷ os) (only-calls rest) ∙ simp e
+only-calls (more {x = x} e rest) = ap (λ (os : List Outcome). taken x ∷ os) (only-calls rest) ∙ simp e
 
 -- So it comes to what they come to.
 pub payload-words : (n : ℕ) (t : Tracker) (b : List ℕ) (places : ℕ) → wordsFrom n t b places ≡ total t (wordCalls n t b places)

@@ -8,12 +8,10 @@ use mathlib.Core.List.{List, [], _∷_, _++_}
 use lib.Dec.{eqb}
 use lib.ListN.{length, take, drop}
 use Rattle.words.specs.Word.{wordBytes}
-use Rattle.payload_fsm.specs.declared.ItsPayloadWord.{ItsPayloadWord}
 use Rattle.records.specs.Records.{Record, flat, room, over}
-use Rattle.stored.specs.declared.FrameTold.{FrameTold}
 use Rattle.cdp_running.specs.declared.Tracker.{Tracker}
 use Rattle.cdp_running.specs.Tracker.{Good}
-use Rattle.cdp_running.specs.Word.{Outcome, taken, refused, wordCall}
+use Rattle.cdp_running.specs.Word.{TakenWord, Outcome, taken, refused, wordCall}
 use Rattle.payload.specs.declared.PayloadAnswer.{PayloadAnswer}
 
 -- What words one after the other come to: the tracker after them, how many were taken, their records, and the refusal's number or 0.
@@ -33,7 +31,7 @@ preceded words records r =
 
 -- A word call's outcome, and what comes after a word that was taken.
 abbrev pub onward : Tracker → Outcome → (Tracker → List Record → Run) → Run
-onward t (taken next kind guessed records frame lanes) more = more next records
+onward t (taken x) more = more (x .next) (x .records)
 onward t (refused n) more = stop t n
 
 -- n words at the front of the bytes, each with the places that those before it left.
@@ -58,14 +56,13 @@ pub data Calls : ℕ → Tracker → List ℕ → ℕ → List Outcome → Type 
   done : {t : Tracker} {bytes : List ℕ} {places : ℕ} → Calls 0 t bytes places []
   last : {n : ℕ} {t : Tracker} {bytes : List ℕ} {places number : ℕ} → wordCall t (take wordBytes bytes) places ≡ refused number
       → Calls (suc n) t bytes places (refused number ∷ [])
-  more : {n : ℕ} {t next : Tracker} {bytes : List ℕ} {places : ℕ} {kind : ItsPayloadWord} {guessed : Bool} {records : List Record} {frame : FrameTold} {lanes : ℕ} {rest : List Outcome}
-      → wordCall t (take wordBytes bytes) places ≡ taken next kind guessed records frame lanes
-      → Calls n next (drop wordBytes bytes) (places - length records) rest
-      → Calls (suc n) t bytes places (taken next kind guessed records frame lanes ∷ rest)
+  more : {n : ℕ} {t : Tracker} {bytes : List ℕ} {places : ℕ} {x : TakenWord} {rest : List Outcome}
+      → wordCall t (take wordBytes bytes) places ≡ taken x → Calls n (x .next) (drop wordBytes bytes) (places - length (x .records)) rest
+      → Calls (suc n) t bytes places (taken x ∷ rest)
 
 -- The same calls as a list: what each comes to.
 abbrev pub further : Outcome → (Tracker → List Record → List Outcome) → List Outcome
-further (taken next kind guessed records frame lanes) go = taken next kind guessed records frame lanes ∷ go next records
+further (taken x) go = taken x ∷ go (x .next) (x .records)
 further (refused n) go = refused n ∷ []
 
 unfoldable pub wordCalls : ℕ → Tracker → List ℕ → ℕ → List Outcome
@@ -83,7 +80,7 @@ payloadCalls t bytes places =
 -- What a list of outcomes comes to, all in all.
 unfoldable pub total : Tracker → List Outcome → Run
 total t [] = stop t 0
-total t (taken next kind guessed records frame lanes ∷ rest) = preceded 1 records (total next rest)
+total t (taken x ∷ rest) = preceded 1 (x .records) (total (x .next) rest)
 total t (refused n ∷ rest) = stop t n
 
 -- What a payload call gives, from the tracker, the bytes and the buffer.

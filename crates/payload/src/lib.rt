@@ -59,16 +59,10 @@ pub fn payload(t: Tracker, bytes: &[u8], out: &mut [u64]) -> PayloadAnswer
         let told = answer.told;
         let after = answer.tracker;
         match told {
-            Told::Taken {
-                kind: _,
-                guessed: _,
-                records: n,
-                frame: _,
-                lanes: _,
-            } => {
+            Told::Taken(taken) => {
                 cur = after;
                 at = at + Word::SIZE;
-                used = used + records::RECORD_WIDTH * (n as usize);
+                used = used + records::RECORD_WIDTH * (taken.records as usize);
             }
             Told::Refused(refusal) => {
                 return PayloadAnswer {

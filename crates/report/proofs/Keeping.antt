@@ -15,7 +15,7 @@ use Rattle.cdp_running.specs.declared.Tracker.{Tracker}
 use Rattle.cdp_running.specs.Tracker.{Good, packetCall}
 use Rattle.cdp_running.specs.Word.{recordsOf, Outcome, taken, refused, takenOf, wordCall, answerOf, recordsIn}
 use Rattle.cdp_running.proofs.Good.{good-accept, good-next}
-use Rattle.cdp_running.proofs.Outcome.{taken-admitted, taken-is, next-is}
+use Rattle.cdp_running.proofs.Outcome.{taken-admitted, taken-is, next-is, records-are}
 use Rattle.cdp_running.proofs.Fine.{few-records}
 use Rattle.bench_file.specs.declared.Found.{Found}
 use Rattle.bench_file.specs.declared.Found.the-variants as F
@@ -46,10 +46,9 @@ unfolding takenOf
 good-word t bytes g = at (wordCall t bytes mostRecords) refl
   where
     at : (o : Outcome) → wordCall t bytes mostRecords ≡ o → Good (answerOf t o .tracker) × (length (recordsIn o) ≤ mostRecords)
-    at (taken next kind guessed records frame lanes) e =
+    at (taken x) e =
         let a = taken-admitted t bytes mostRecords e in
-        let same : recordsOf t (wordOf bytes) ≡ records = cc (taken-is t bytes mostRecords e) in
-        (rw (next-is t bytes mostRecords e) (good-next t (wordOf bytes) g (a .accepted) (a .low)), omega (arith, ap length same, few-records t (wordOf bytes)))
+        (rw (next-is t bytes mostRecords e) (good-next t (wordOf bytes) g (a .accepted) (a .low)), omega (arith, ap length (records-are t bytes mostRecords e), few-records t (wordOf bytes)))
     at (refused n) e = (g, omega arith)
 
 -- The text that is still to be printed.

@@ -1,6 +1,6 @@
 -- One step of a report: what the code computed, in the definition's terms.
 -- Assumes nothing.
-use Prim.Native.Nat.{ℕ, _+_, _-_, _^_, _≤_}
+use Prim.Native.Nat.{ℕ, _+_, _-_, _^_, _≤_, _*_}
 use mathlib.Core.Path.{_≡_, refl, sym, ap, subst, _∙_}
 use mathlib.Core.Bool.{Bool, true, false}
 use mathlib.Core.List.{List}
@@ -16,6 +16,7 @@ use Rattle.cdp_running.specs.declared.Tracker.{Tracker}
 use Rattle.cdp_running.specs.declared.WordAnswer.{WordAnswer}
 use Rattle.cdp_running.specs.Tracker.{Good, startOf}
 use Rattle.cdp_running.proofs.Good as Good
+use Rattle.cdp_running.specs.Answer.{numbersOf}
 use Rattle.cdp_running.specs.Word.{Outcome, taken, refused, wordCall, answerOf, recordsIn, WordPost}
 use Rattle.bench_file.specs.declared.Found.the-variants as F
 use Rattle.bench_file.specs.File.{checkOf, bytesAt}
@@ -29,7 +30,7 @@ use Rattle.report.specs.declared.Report.{Report}
 use Rattle.ascii.specs.Steps.{Prints}
 use Rattle.report.specs.Text.{lines, recordsAt}
 use Rattle.report.specs.File.{settings}
-use Rattle.report.specs.Report.{firstStage, startReport, reading, recordsTold, itemStep, stageStep, stepOf, GoodReading, GoodWord, GoodReport}
+use Rattle.report.specs.Report.{firstStage, startReport, reading, itemStep, stageStep, stepOf, GoodReading, GoodWord, GoodReport}
 use Rattle.report.proofs.Lines.{records-written}
 
 -- The start.
@@ -67,20 +68,20 @@ module _ (t : Tracker) (bytes : List ℕ) {zeros after : List ℕ} {a : WordAnsw
   stand : after ≡ over (flat (recordsIn (wordCall t bytes mostRecords))) zeros
   stand = rw six at (w .buffer-is)
 
-  told : (o : Outcome) → recordsTold (answerOf t o .told) ≡ length (recordsIn o)
-  told (taken next kind guessed records frame lanes) = refl
+  told : (o : Outcome) → numbersOf (answerOf t o .told) .records ≡ length (recordsIn o)
+  told (taken x) = refl
   told (refused m) = refl
 
-  told-is : recordsTold (a .told) ≡ length (recordsIn (wordCall t bytes mostRecords))
+  told-is : numbersOf (a .told) .records ≡ length (recordsIn (wordCall t bytes mostRecords))
   told-is = rw answered (told (wordCall t bytes mostRecords))
 
-  pub told-few : length after ≡ length zeros → recordsTold (a .told) ≤ mostRecords
+  pub told-few : length after ≡ length zeros → numbersOf (a .told) .records ≤ mostRecords
   told-few same =
       let rs = recordsIn (wordCall t bytes mostRecords) in
       let fits = over-fits (flat rs) zeros (sym (ap length stand) ∙ same) in
       omega (arith, told-is, length-flat rs)
 
-  pub told-stand : recordsAt (recordsTold (a .told)) after ≡ recordsIn (wordCall t bytes mostRecords)
+  pub told-stand : recordsAt (numbersOf (a .told) .records) after ≡ recordsIn (wordCall t bytes mostRecords)
   told-stand = rw (told-is, stand) (records-written (recordsIn (wordCall t bytes mostRecords)) _)
 
 -- A word: its lines are printed.
@@ -88,7 +89,7 @@ pub word-printed : (file : List ℕ) (r : Report) (at : ℕ) {zeros after d d′
     → WordPost (r .tracker) (bytesAt file at) zeros a after
     → length zeros ≡ mostRecords * recordWidth
     → on ≡ pastWord file (r .word)
-    → given ≡ recordsTold (a .told)
+    → given ≡ numbersOf (a .told) .records
     → Puts (lines (recordsAt given after)) d n d′
     → Prints (itemStep file r (F.Word at)) d (record { stage = S.Items; tracker = a .tracker; packet = r .packet; word = on; left = r .left - 1; count = r .count + given }) n d′
 word-printed file r at {after = after} {given = given} w z o g p =

@@ -8,8 +8,6 @@ use lib.Dec.{eqb}
 use lib.ListN.{length}
 use Rattle.words.specs.Word.{wordBytes}
 use Rattle.records.specs.Records.{mostRecords}
-use Rattle.cdp_running.specs.declared.Told.{Told}
-use Rattle.cdp_running.specs.declared.Told.the-variants.{Taken, Refused}
 use Rattle.cdp_running.specs.Tracker.{Good, startOf}
 use Rattle.bench_file.specs.declared.Found.{Found}
 use Rattle.bench_file.specs.declared.Found.the-variants as F
@@ -113,8 +111,3 @@ pub record GoodWord (file : List ℕ) (r : Report) (at : ℕ) : Type 0 where
 -- A report prints by steps.
 abbrev pub printer : List ℕ → Printer Report
 printer file = record { stepOf = stepOf file; most = mostPrinted; isDone = λ r. isDone (r .stage); Good = GoodReport file }
-
--- How many records a word call told.
-abbrev pub recordsTold : Told → ℕ
-recordsTold (Taken kind guessed records frame lanes) = records
-recordsTold (Refused n) = 0

@@ -7,12 +7,11 @@ ghost use Rattle.bench_file.specs.Reader.{nextOf};
 ghost use Rattle.bench_file.specs.declared.Found.the-variants as F;
 ghost use Rattle.report.specs.Text.{mostPrinted};
 ghost use Rattle.ascii.specs.Steps.{Prints, StepPost};
-ghost use Rattle.report.specs.Report.{startReport, firstStage, atStage, itemStep, stepOf, isDone, recordsTold, GoodWord, GoodReading, GoodReport, printer};
+ghost use Rattle.report.specs.Report.{startReport, firstStage, atStage, itemStep, stepOf, isDone, GoodWord, GoodReading, GoodReport, printer};
 
 mod text;
 
 use bench_file::Found;
-use cdp_running::Told;
 use cdp_running::Tracker;
 use packet::Packet;
 use packet::Rule;
@@ -85,22 +84,6 @@ fn at_stage(r: Report, stage: Stage) -> Report
     }
 }
 
-// How many records a word call told. (No word of a file that was not refused is refused: proofs/Refused.antt, `never-refused`.)
-fn records_told(told: Told) -> u64
-    ensures { λ r. ⌜ r ≡ recordsTold told ⌝ }
-{
-    match told {
-        Told::Taken {
-            kind: _,
-            guessed: _,
-            records,
-            frame: _,
-            lanes: _,
-        } => records,
-        Told::Refused(_) => 0,
-    }
-}
-
 // A packet: nothing is printed, and its words come next.
 fn packet_step(r: Report, file: &[u8], packet: Packet, words: u16) -> Report
     requires { ⌜ Good (r .tracker) ⌝ }
@@ -118,7 +101,7 @@ fn packet_step(r: Report, file: &[u8], packet: Packet, words: u16) -> Report
     }
 }
 
-// The word at a place of the file: the lines of its records.
+// The word at a place of the file: the lines of its records. (No word of a file that was not refused is refused: proofs/Refused.antt, `never-refused`.)
 fn word_step(r: Report, file: &[u8], at: usize, out: &mut [u8]) -> Filled
     requires { ⌜ Good (r .tracker) ⌝ }
     requires { ⌜ GoodWord (now file) r at ⌝ }
@@ -127,12 +110,12 @@ fn word_step(r: Report, file: &[u8], at: usize, out: &mut [u8]) -> Filled
 {
     let tracker = r.tracker;
     let end = at + Word::SIZE;
-    let mut records = [0u64; records::MOST_RECORDS * records::RECORD_WIDTH];
-    let answer = tracker.word(&file[at..end], &mut records);
+    let mut numbers = [0u64; records::MOST_RECORDS * records::RECORD_WIDTH];
+    let answer = tracker.word(&file[at..end], &mut numbers);
     let told = answer.told;
     let next = answer.tracker;
-    let given = records_told(told);
-    let n = text::put_lines(out, &records, given as usize);
+    let given = told.records();
+    let n = text::put_lines(out, &numbers, given as usize);
     Filled {
         report: Report {
             stage: Stage::Items,

@@ -1,6 +1,6 @@
 // Replays recorded calls, and compares each answer with the one that the given Rust gave. tests/make/record.py made the files of data/ and
 // says how they are written. Document 01, "At the edges": "The rest, and the differential runs, are done by a program."
-ghost use Prim.Native.Nat.{_+_, _<_, _≤_};
+ghost use Prim.Native.Nat.{_+_, _*_, _<_, _≤_};
 ghost use lib.ListN.{length};
 ghost use Rattle.records.specs.Records.{recordWidth, mostRecords};
 ghost use Rattle.cdp_running.specs.Tracker.{Good};
@@ -146,16 +146,12 @@ fn same_answer(fd: i32, told: Told, out: &[u64; MOST_NUMBERS]) -> bool {
     let next = take(fd, 4);
     let b = next.bytes;
     match told {
-        Told::Taken {
-            kind,
-            guessed,
-            records,
-            frame,
-            lanes,
-        } => {
+        Told::Taken(taken) => {
+            let kind = taken.kind;
+            let frame = taken.frame;
             let as_kind = payload_fsm::kind_number(kind) == b[0];
-            let as_guess = one(guessed) == b[1] as u32;
-            let as_count = records == b[3] as u64;
+            let as_guess = one(taken.guessed) == b[1] as u32;
+            let as_count = taken.records == b[3] as u64;
             let as_frame = same_frame(fd, frame, b[2]);
             let as_records = same_records(fd, out, b[3]);
             next.whole & (as_kind & (as_guess & (as_frame & (as_count & as_records))))

@@ -9,8 +9,8 @@ use Rattle.report.proofs.Steps.{as-word, told-few, word-printed}
 use Rattle.report.proofs.word_step.Statement.{statement}
 use Rattle.report.proofs.word_step.Tie as tie
 
-few : (c : tie.After-records-told) → c .records-told .result ≤ mostRecords
-few c = omega (arith, c .records-told .ensures, told-few (c .before .before .before .before .before .before .before .before .before .args .r .tracker) _ (c .before .before .before .word .ensures) (search needs) (c .before .before .before .word .kept .1 .1 .0))
+few : (c : tie.After-records) → c .records .result ≤ mostRecords
+few c = omega (arith, c .records .ensures, told-few (c .before .before .before .before .before .before .before .before .before .args .r .tracker) _ (c .before .before .before .word .ensures) (search needs) (c .before .before .before .word .kept .1 .1 .0))
 
 put-lines-requires : tie.Need-put-lines-requires
 put-lines-requires c κs = (omega (arith, few (c .before .before), c .before .before .before .before .before .before .before .before .before .before .before .pre .1 .1), omega (arith, few (c .before .before), c .before .before .before .before .before .word .kept .1 .1 .0))
@@ -22,7 +22,7 @@ add-t25 : tie.Need-add-t25
 add-t25 c = omega (arith, c .before .before .before .before .before .before .before .before .before .before .before .before .before .before .before .before .before .pre .1 .0 .count-low, few (c .before .before .before .before .before .before .before .before))
 
 returns : tie.Need-returns
-returns c = word-printed (now (c .before .before .before .before .before .before .before .before .before .before .before .before .before .before .before .before .before .args .file)) (c .before .before .before .before .before .before .before .before .before .before .before .before .before .before .before .before .before .args .r) (c .before .before .before .before .before .before .before .before .before .before .before .before .before .before .before .before .before .args .at) (as-word (now (c .before .before .before .before .before .before .before .before .before .before .before .before .before .before .before .before .before .args .file)) (c .before .before .before .before .before .before .before .before .before .before .before .before .before .before .before .before .before .args .at) (c .before .before .before .before .before .before .before .before .before .before .before .word .ensures)) (search needs) (c .before .before .word-after .ensures) (c .before .before .before .before .before .before .before .before .records-told .ensures) (c .before .before .before .before .before .put-lines .ensures)
+returns c = word-printed (now (c .before .before .before .before .before .before .before .before .before .before .before .before .before .before .before .before .before .args .file)) (c .before .before .before .before .before .before .before .before .before .before .before .before .before .before .before .before .before .args .r) (c .before .before .before .before .before .before .before .before .before .before .before .before .before .before .before .before .before .args .at) (as-word (now (c .before .before .before .before .before .before .before .before .before .before .before .before .before .before .before .before .before .args .file)) (c .before .before .before .before .before .before .before .before .before .before .before .before .before .before .before .before .before .args .at) (c .before .before .before .before .before .before .before .before .before .before .before .word .ensures)) (search needs) (c .before .before .word-after .ensures) (c .before .before .before .before .before .before .before .before .records .ensures) (c .before .before .before .before .before .put-lines .ensures)
 
 pub word-step-spec : {M : Type 1} → statement M
 word-step-spec = tie.close (tie.spec (λ c. search needs) (λ c. search needs) (λ c. search needs) (λ c. search needs) (λ c. search needs) (λ c. search needs) (λ c. search needs) (λ c. search needs) put-lines-requires (λ c. search needs) sub-t24 add-t25 (λ c. search needs) returns)

@@ -6,8 +6,9 @@ use Rattle.khandzorul.proofs.answer.told.Tie as tie
 
 returns : tie.Need-returns
 returns c =
-    let c6 = c .before .before .before .before .before .before in
-    simp (c6 .told .given .1, c .before .before .before .flag .ensures, c .before .before .before .before .kind-number .ensures, c .before .before .frame-number .ensures, c .before .frame-start .ensures, c .frame-end .ensures)
+    let c3 = c .before .before .before in
+    let c7 = c3 .before .before .before .before in
+    simp (c7 .told .given .1, c3 .before .flag .ensures, c3 .before .before .kind-number .ensures, c3 .frame-number .ensures, c .before .before .frame-start .ensures, c .before .frame-end .ensures)
 
 returns-2 : tie.Need-returns-2
 returns-2 c = simp (c .before .before .told2 .given .1, c .refused .ensures)
