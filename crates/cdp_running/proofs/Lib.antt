@@ -8,3 +8,4 @@ pub mod Pages
 pub mod Lanes
 pub mod Unique
 pub mod Replace
+pub mod DataKinds

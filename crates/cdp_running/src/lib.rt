@@ -96,7 +96,8 @@ pub struct PacketAnswer {
     pub refusal: u8,
 }
 
-// The rows of a word, by what it was taken as.
+// The rows of a word, by what it was taken as. in_place has the same choice on the numbers of an array, for speed, with the question before it whether any
+// row holds.
 fn rows_of(t: Tracker, a: Advanced, word: Word) -> [Row; MOST_RECORDS]
     ensures { λ r. ⌜ r ≡ padded (rowsOf t a word) ⌝ }
 {
@@ -118,11 +119,7 @@ fn rows_of(t: Tracker, a: Advanced, word: Word) -> [Row; MOST_RECORDS]
         ItsPayloadWord::TdhContinuation => {
             tdh_validator::check_continuation(t.settings, t.tdh, word)
         }
-        ItsPayloadWord::DataWord => {
-            let lanes = t.ihw.lanes;
-            validators::data_words::check(t.settings, t.seen, lanes, t.cdw, a.guessed, word)
-        }
-        ItsPayloadWord::Cdw => {
+        ItsPayloadWord::DataWord | ItsPayloadWord::Cdw => {
             let lanes = t.ihw.lanes;
             validators::data_words::check(t.settings, t.seen, lanes, t.cdw, a.guessed, word)
         }

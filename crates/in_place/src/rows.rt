@@ -1,4 +1,5 @@
-// The records of a word, from the numbers themselves. What a kind is checked for stands in cdp_running; here it is asked first whether there is any record.
+// The records of a word by its kind, from the numbers themselves. Which rows a kind has is said in cdp_running (`rowsAs`); its code, `rows_of`, is the form on
+// a tracker by value, to be read. Here it is asked first whether there is any record, since most words give none.
 ghost use mathlib.Core.Path.{_≡_};
 ghost use mathlib.Core.Bool.{true};
 ghost use Rattle.payload_fsm.specs.Step.{isThree};
@@ -53,15 +54,7 @@ fn rows(a: &[u64], taken: Advanced, word: Word) -> [Row; MOST_RECORDS]
         ItsPayloadWord::TdhContinuation => {
             tdh_validator::check_continuation(read::settings(a), read::tdh(a), word)
         }
-        ItsPayloadWord::DataWord => validators::data_words::check(
-            read::settings(a),
-            a[place::SEEN] == 1,
-            a[place::LANES] as u32,
-            read::cdw(a),
-            taken.guessed,
-            word,
-        ),
-        ItsPayloadWord::Cdw => validators::data_words::check(
+        ItsPayloadWord::DataWord | ItsPayloadWord::Cdw => validators::data_words::check(
             read::settings(a),
             a[place::SEEN] == 1,
             a[place::LANES] as u32,

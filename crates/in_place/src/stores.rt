@@ -1,4 +1,5 @@
-// What a word of each kind stores, on the numbers themselves: the places that it changes, and no others.
+// What a word of each kind stores, on the numbers themselves: the places that it changes, and no others. What is stored is said part by part in the crate
+// stored, for a tracker by value; here it is chosen by kind once, and nothing else is touched.
 ghost use mathlib.Core.Path.{_≡_};
 ghost use Prim.Native.Nat.{_+_, _≤_, _<_};
 ghost use mathlib.Core.List.{[], _∷_};

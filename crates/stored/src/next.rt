@@ -1,4 +1,5 @@
-// What is kept after a word, each part by itself, and what is told of the frame and the lanes. 01, "Records": what is stored where.
+// What is kept after a word, each part by itself, and what is told of the frame and the lanes. 01, "Records": what is stored where. in_place stores the same
+// by kind.
 ghost use mathlib.Core.Path.{_≡_};
 ghost use Rattle.stored.specs.Stored.{nextIhw, nextTdh, nextInternal, firstCdw, nextCdw, opens, closes, nextFrame, frameTold, lanesTold};
 use crate::Frame;

@@ -132,6 +132,7 @@ pub fn check_tdh_no_continuation(
     let continuation = tdh.continuation();
     let matched = (packet.page == 0) & ((internal == 1) | (packet.trigger / 16 % 2 == 1));
     let packet_kind = packet.trigger % 4096;
+    let interval = check_trigger_interval(settings, earlier, word);
     let mut rows = [none(); MOST_RECORDS];
     rows[0] = when(fault != 0, 40, fault, 0);
     rows[1] = when(settings.running & (continuation != 0), 42, 1, 0);
@@ -153,7 +154,7 @@ pub fn check_tdh_no_continuation(
         kind as u64,
         packet_kind as u64,
     );
-    rows[5] = check_trigger_interval(settings, earlier, word);
+    rows[5] = interval;
     rows
 }
 
@@ -169,6 +170,7 @@ pub fn check_after_tdt_packet_done_true(
     let tdh = Tdh { word: word };
     let fault = sanity_check(word);
     let bc = tdh.trigger_bc();
+    let interval = check_trigger_interval(settings, earlier, word);
     let mut rows = [none(); MOST_RECORDS];
     rows[0] = when(fault != 0, 40, fault, 0);
     rows[1] = when(
@@ -177,7 +179,7 @@ pub fn check_after_tdt_packet_done_true(
         previous.bc as u64,
         bc as u64,
     );
-    rows[2] = check_trigger_interval(settings, earlier, word);
+    rows[2] = interval;
     rows
 }
 

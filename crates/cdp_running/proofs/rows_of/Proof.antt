@@ -1,6 +1,9 @@
 -- `rows_of` meets its contract, by what the word was taken as.
 -- Assumes nothing.
 use borrow.Author.Needs.{needs}
+use mathlib.Core.Path.{sym, ap, _∙_}
+use Rattle.records.specs.Records.{padded}
+use Rattle.cdp_running.proofs.DataKinds.{data-rows}
 use Rattle.cdp_running.proofs.rows_of.Statement.{statement}
 use Rattle.cdp_running.proofs.rows_of.Tie as tie
 
@@ -20,22 +23,20 @@ returns-5 : tie.Need-returns-5
 returns-5 c = simp (c .before .enum-told5 .given .1, c .check-continuation2 .ensures)
 
 returns-6 : tie.Need-returns-6
-returns-6 c = simp (c .before .enum-told6 .given .1, c .check .ensures)
+returns-6 c =
+    let s = c .before .before .args in
+    c .check .ensures ∙ ap padded (sym (data-rows (s .a .word) (s .a .guessed) (s .t) (s .word) (c .before .match .keys6)))
 
 returns-7 : tie.Need-returns-7
-returns-7 c = simp (c .before .enum-told7 .given .1, c .check2 .ensures)
+returns-7 c = simp (c .before .enum-told6 .given .1, c .check2 .ensures)
 
 returns-8 : tie.Need-returns-8
-returns-8 c = simp (c .before .enum-told8 .given .1, c .check3 .ensures)
-
-returns-9 : tie.Need-returns-9
-returns-9 c = simp (c .before .enum-told9 .given .1, c .check-at-ddw0 .ensures)
+returns-8 c = simp (c .before .enum-told7 .given .1, c .check-at-ddw0 .ensures)
 
 pub rows-of-spec : {M : Type 1} → statement M
 rows-of-spec =
     tie.close
-    (tie.spec (λ c. search needs) (λ c. search needs) (λ c. search needs) (λ c. search needs) (λ c. search needs) (λ c. search needs)
-    (λ c. search needs) (λ c. search needs) (λ c. search needs) (λ c. search needs) (λ c. search needs) (λ c. search needs)
-    (λ c. search needs) (λ c. search needs) (λ c. search needs) (λ c. search needs) (λ c. search needs) (λ c. search needs)
-    (λ c. search needs) returns returns-2 returns-3 returns-4
-    returns-5 returns-6 returns-7 returns-8 returns-9)
+    (tie.spec
+    (λ c. search needs) (λ c. search needs) (λ c. search needs) (λ c. search needs) (λ c. search needs) (λ c. search needs) (λ c. search needs)
+    (λ c. search needs) (λ c. search needs) (λ c. search needs) (λ c. search needs) (λ c. search needs) (λ c. search needs) (λ c. search needs)
+    (λ c. search needs) (λ c. search needs) returns returns-2 returns-3 returns-4 returns-5 returns-6 returns-7 returns-8)

@@ -6,12 +6,12 @@ use Rattle.tdh_validator.proofs.check_after_tdt_packet_done_true.Tie as
 
 returns : tie.Need-returns
 returns c =
-    let c1 = c .before in
-    let c5 = c1 .before .before .before .before in
+    let c4 = c .before .before .before .before in
+    let c5 = c4 .before in
     let c6 = c5 .before in
     let c7 = c6 .before in
     let c8 = c7 .before in
-    simp (c .check-trigger-interval .ensures, c1 .when2 .ensures, c5 .when .ensures, c6 .none .ensures, c7 .trigger-bc .ensures, c8 .sanity-check .ensures)
+    simp (c .when2 .ensures, c4 .when .ensures, c5 .none .ensures, c6 .check-trigger-interval .ensures, c7 .trigger-bc .ensures, c8 .sanity-check .ensures)
 
 pub check-after-tdt-packet-done-true-spec : {M : Type 1} → statement M
 check-after-tdt-packet-done-true-spec =

@@ -1,6 +1,11 @@
 -- `rows` meets its contract.
 -- Assumes nothing.
 use borrow.Author.Needs.{needs}
+use denote.Ref.{now}
+use mathlib.Core.Path.{sym, ap, _∙_}
+use Rattle.records.specs.Records.{padded}
+use Rattle.cdp_running.proofs.DataKinds.{data-rows}
+use Rattle.tracker_array.specs.Read.{trackerIn}
 use Rattle.in_place.proofs.rows.rows.Statement.{statement}
 use Rattle.in_place.proofs.rows.rows.Tie as tie
 
@@ -22,25 +27,24 @@ returns-5 : tie.Need-returns-5
 returns-5 c = simp (c .before .before .before .enum-told5 .given .1, c .check-continuation2 .ensures, c .before .before .settings4 .ensures, c .before .tdh2 .ensures)
 
 returns-6 : tie.Need-returns-6
-returns-6 c = simp (c .before .before .before .before .before .enum-told6 .given .1, c .check .ensures, c .before .before .before .before .settings5 .ensures, c .before .cdw .ensures)
+returns-6 c =
+    let s = c .before .before .before .before .before .before .args in
+    c .check .ensures ∙ simp (c .before .before .before .before .settings5 .ensures, c .before .cdw .ensures)
+    ∙ ap padded (sym (data-rows (s .taken .word) (s .taken .guessed) (trackerIn (now (s .a))) (s .word) (c .before .before .before .before .before .match .keys6)))
 
 returns-7 : tie.Need-returns-7
-returns-7 c = simp (c .before .before .before .before .before .enum-told7 .given .1, c .check2 .ensures, c .before .before .before .before .settings6 .ensures, c .before .cdw2 .ensures)
+returns-7 c = simp (c .before .before .before .enum-told6 .given .1, c .check2 .ensures, c .before .before .settings6 .ensures)
 
 returns-8 : tie.Need-returns-8
-returns-8 c = simp (c .before .before .before .enum-told8 .given .1, c .check3 .ensures, c .before .before .settings7 .ensures)
-
-returns-9 : tie.Need-returns-9
-returns-9 c = simp (c .before .before .before .enum-told9 .given .1, c .check-at-ddw0 .ensures, c .before .before .settings8 .ensures, c .before .packet3 .ensures)
+returns-8 c = simp (c .before .before .before .enum-told7 .given .1, c .check-at-ddw0 .ensures, c .before .before .settings7 .ensures, c .before .packet3 .ensures)
 
 pub rows-spec : {M : Type 1} → statement M
 rows-spec =
     tie.close
-    (tie.spec (λ c. search needs) (λ c. search needs) (λ c. search needs) (λ c. search needs) (λ c. search needs) (λ c. search needs)
-    (λ c. search needs) (λ c. search needs) (λ c. search needs) (λ c. search needs) (λ c. search needs) (λ c. search needs)
-    (λ c. search needs) (λ c. search needs) (λ c. search needs) (λ c. search needs) (λ c. search needs) (λ c. search needs)
-    (λ c. search needs) (λ c. search needs) (λ c. search needs) (λ c. search needs) (λ c. search needs) (λ c. search needs)
-    (λ c. search needs) (λ c. search needs) (λ c. search needs) (λ c. search needs) (λ c. search needs) (λ c. search needs)
-    (λ c. search needs) (λ c. search needs) (λ c. search needs) (λ c. search needs) (λ c. search needs) (λ c. search needs)
-    (λ c. search needs) (λ c. search needs) (λ c. search needs) (λ c. search needs) (λ c. search needs) (λ c. search needs)
-    (λ c. search needs) returns returns-2 returns-3 returns-4 returns-5 returns-6 returns-7 returns-8 returns-9)
+    (tie.spec
+    (λ c. search needs) (λ c. search needs) (λ c. search needs) (λ c. search needs) (λ c. search needs) (λ c. search needs) (λ c. search needs)
+    (λ c. search needs) (λ c. search needs) (λ c. search needs) (λ c. search needs) (λ c. search needs) (λ c. search needs) (λ c. search needs)
+    (λ c. search needs) (λ c. search needs) (λ c. search needs) (λ c. search needs) (λ c. search needs) (λ c. search needs) (λ c. search needs)
+    (λ c. search needs) (λ c. search needs) (λ c. search needs) (λ c. search needs) (λ c. search needs) (λ c. search needs) (λ c. search needs)
+    (λ c. search needs) (λ c. search needs) (λ c. search needs) (λ c. search needs) (λ c. search needs) (λ c. search needs) (λ c. search needs)
+    (λ c. search needs) returns returns-2 returns-3 returns-4 returns-5 returns-6 returns-7 returns-8)
