@@ -11,6 +11,7 @@ use Rattle.packet.specs.declared.Packet.{Packet}
 use Rattle.packet.specs.Packet.{inRange}
 use Rattle.cdp_running.specs.Tracker.{acceptOf, packetCall}
 use Rattle.tracker_array.specs.Array.{encodeOf}
+use Rattle.tracker_array.specs.Place as P
 use Rattle.tracker_array.specs.Read.{trackerIn}
 use Rattle.tracker_array.specs.Good.{GoodArray}
 use Rattle.in_place.specs.Calls.{PacketInPlace, ResetInPlace}
@@ -31,7 +32,7 @@ module _ (a : List ℕ) (h : GoodArray a) where
         let numbers : after ≡ encodeOf (packetCall (trackerIn a) p .tracker) = simp within q in
         record { answer = simp within; numbers = numbers; good = good-after numbers (kept-packet (trackerIn a) (h .good, h .sized) p) }
 
-  pub reset-done : {n : ℕ} → n ≡ 0 → ResetInPlace a (set a 14 n)
+  pub reset-done : {n : ℕ} → n ≡ 0 → ResetInPlace a (set a P.state n)
   reset-done e =
-      let numbers = ap (λ (k : ℕ). set a 14 k) e ∙ resets a h in
+      let numbers = ap (λ (k : ℕ). set a P.state k) e ∙ resets a h in
       record { numbers = numbers; good = good-after numbers (kept-reset (trackerIn a) (h .good, h .sized)) }

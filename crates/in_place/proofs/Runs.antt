@@ -18,6 +18,7 @@ use Rattle.cdp_running.specs.declared.Tracker.{Tracker}
 use Rattle.cdp_running.specs.Tracker.{Good}
 use Rattle.payload.specs.Payload.{Run, preceded, wordsFrom}
 use Rattle.payload.proofs.Run.{preceded-twice, silent-step}
+use Rattle.tracker_array.specs.Place as P
 use Rattle.tracker_array.specs.Read.{place}
 use Rattle.in_place.specs.Quiet.{quietId, checkedLanes, idAt, QuietTo, Passed}
 use Rattle.in_place.proofs.QuietId.{quietNext, quiet-silent, quiet-next}
@@ -94,11 +95,11 @@ module _ (b : List ℕ) (byte : (i : ℕ) → getD b i 0 < 256) where
 
 -- What is stored after a run, and after none.
 module _ {a b : List ℕ} {at to : ℕ} (q : QuietTo a b at to) where
-  pub some-passed : (to ≡ at → ⊥) → Passed a b at to (set (set a 15 (place a 15 + (to - at) / 10)) 16 1)
+  pub some-passed : (to ≡ at → ⊥) → Passed a b at to (set (set a P.count (place a P.count + (to - at) / 10)) P.seen 1)
   some-passed h =
       let many : (to - at) / 10 ≡ q .n = omega (arith, q .to-is) in
       let some : q .n ≡ 0 → ⊥ = λ z. h (omega (arith, q .to-is)) in
-      record { quiet = q; numbers = simp (ne-eqb (q .n) 0 some) (ap (λ (n : ℕ). set (set a 15 (place a 15 + n)) 16 1) many) }
+      record { quiet = q; numbers = simp (ne-eqb (q .n) 0 some) (ap (λ (n : ℕ). set (set a P.count (place a P.count + n)) P.seen 1) many) }
 
   pub none-passed : to ≡ at → Passed a b at to a
   none-passed h = let none : q .n ≡ 0 = omega (arith, q .to-is) in record { quiet = q; numbers = simp (eq-eqb (q .n) 0 none) }

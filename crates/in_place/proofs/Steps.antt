@@ -35,6 +35,7 @@ use Rattle.cdp_running.specs.Next.{nextOf}
 use Rattle.cdp_running.specs.Word.{Outcome, taken, refused, takenAs, positionNow, rowsAs, rowsOf, recordsOf, takenAnswer, wordCall, answerOf, recordsIn, WordPost}
 use Rattle.cdp_running.proofs.Calls.{word-1, word-2, word-3, word-4, word-taken, of-word}
 use Rattle.tracker_array.specs.Array.{encodeOf}
+use Rattle.tracker_array.specs.Place as P
 use Rattle.tracker_array.specs.Read.{place, isOn, trackerIn}
 use Rattle.tracker_array.specs.Good.{GoodArray}
 use Rattle.in_place.specs.Calls.{StepInPlace, WordInPlace}
@@ -131,7 +132,7 @@ in-place {a} {bytes} {buffer} {r} {after} {buffer-after} h w e =
     }
 
 -- The word call where the word is ten bytes, a packet was accepted and takes one more.
-module _ (a bytes buffer : List ℕ) (h : GoodArray a) (ten : length bytes ≡ 10) (have : isOn (place a 6) ≡ true) (low : place a 15 < maxWords) where
+module _ (a bytes buffer : List ℕ) (h : GoodArray a) (ten : length bytes ≡ 10) (have : isOn (place a P.accepted) ≡ true) (low : place a P.count < maxWords) where
   abbrev cur : Tracker
   cur = trackerIn a
 
@@ -170,10 +171,10 @@ module _ (a bytes buffer : List ℕ) (h : GoodArray a) (ten : length bytes ≡ 1
   word-quiet byte {to} {after} {told} p some e =
       let q = p .quiet in
       let one : q .n ≡ 1 = omega (arith, q .to-is, q .within) in
-      let id = ap (quietId (checkedLanes (isOn (place a 1)) (place a 18))) (id-byte bytes ten byte) ∙ q .each 0 (omega arith) in
+      let id = ap (quietId (checkedLanes (isOn (place a P.running)) (place a P.lanes))) (id-byte bytes ten byte) ∙ q .each 0 (omega arith) in
       let call = quiet-call cur bytes ten have low (q .among (λ z. omega arith)) id (room buffer) in
       let numbers =
-      p .numbers ∙ ap (λ (n : ℕ). cond (eqb n 0) a (set (set a 15 (place a 15 + n)) 16 1)) one ∙ counts a 1 h
+      p .numbers ∙ ap (λ (n : ℕ). cond (eqb n 0) a (set (set a P.count (place a P.count + n)) P.seen 1)) one ∙ counts a 1 h
       ∙ sym (ap (λ (o : Outcome). encodeOf (answerOf cur o .tracker)) call) in
       record {
         answer = e ∙ sym (ap (λ (o : Outcome). answerOf cur o .told) call);
@@ -184,9 +185,9 @@ module _ (a bytes buffer : List ℕ) (h : GoodArray a) (ten : length bytes ≡ 1
 
   -- Any other word: the numbers are still as they were.
   module _ {to : ℕ} {l : List ℕ} (p : Passed a bytes 0 to l) (none : to ≡ 0) where
-    pub still-takes : GoodArray l × ((length bytes ≡ 10) × ((isOn (place l 6) ≡ true) × (place l 15 < maxWords)))
+    pub still-takes : GoodArray l × ((length bytes ≡ 10) × ((isOn (place l P.accepted) ≡ true) × (place l P.count < maxWords)))
     still-takes =
-        subst (λ (x : List ℕ). GoodArray x × ((length bytes ≡ 10) × ((isOn (place x 6) ≡ true) × (place x 15 < maxWords)))) (sym (untouched p none)) (h, (ten, (have, low)))
+        subst (λ (x : List ℕ). GoodArray x × ((length bytes ≡ 10) × ((isOn (place x P.accepted) ≡ true) × (place x P.count < maxWords)))) (sym (untouched p none)) (h, (ten, (have, low)))
 
     pub as-before : {told : Told} {after buffer-after : List ℕ} → WordInPlace l bytes buffer told after buffer-after → WordInPlace a bytes buffer told after buffer-after
     as-before {told} {after} {buffer-after} w = subst (λ (x : List ℕ). WordInPlace x bytes buffer told after buffer-after) (untouched p none) w
@@ -196,8 +197,8 @@ module _ (a bytes buffer : List ℕ) (h : GoodArray a) where
   pub word-refused-1 : (length bytes ≡ 10 → ⊥) → WordInPlace a bytes buffer (T.Refused 1) a buffer
   word-refused-1 e = in-place h (word-1 (trackerIn a) bytes buffer (h .good) (ne-eqb _ _ e) refl) (h .own)
 
-  pub word-refused-2 : length bytes ≡ 10 → isOn (place a 6) ≡ false → WordInPlace a bytes buffer (T.Refused 2) a buffer
+  pub word-refused-2 : length bytes ≡ 10 → isOn (place a P.accepted) ≡ false → WordInPlace a bytes buffer (T.Refused 2) a buffer
   word-refused-2 ten e = in-place h (word-2 (trackerIn a) bytes buffer (h .good) (eq-eqb _ _ ten) e refl) (h .own)
 
-  pub word-refused-3 : length bytes ≡ 10 → isOn (place a 6) ≡ true → maxWords ≤ place a 15 → WordInPlace a bytes buffer (T.Refused 3) a buffer
+  pub word-refused-3 : length bytes ≡ 10 → isOn (place a P.accepted) ≡ true → maxWords ≤ place a P.count → WordInPlace a bytes buffer (T.Refused 3) a buffer
   word-refused-3 ten have e = in-place h (word-3 (trackerIn a) bytes buffer (h .good) (eq-eqb _ _ ten) have e refl) (h .own)

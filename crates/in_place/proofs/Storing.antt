@@ -27,6 +27,7 @@ use Rattle.cdp_running.specs.Tracker.{acceptOf, resetOf}
 use Rattle.cdp_running.specs.Next.{nextOf}
 use Rattle.cdp_running.specs.Word.{positionNow}
 use Rattle.tracker_array.specs.Array.{packetNumbers, stateNumber, encodeOf}
+use Rattle.tracker_array.specs.Place as P
 use Rattle.tracker_array.specs.Read.{place, isOn, trackerIn}
 use Rattle.tracker_array.specs.Good.{GoodArray}
 use Rattle.tracker_array.proofs.Laws.{flag-back}
@@ -36,7 +37,7 @@ use Rattle.in_place.proofs.QuietId.{quietNext}
 module _ (t : Tracker) (s : State) (w : Word) where
   -- State and count.
   abbrev moved : List ℕ
-  moved = sets (encodeOf t) 14 (stateNumber s ∷ (t .count + 1) ∷ [])
+  moved = sets (encodeOf t) P.reached (stateNumber s ∷ (t .count + 1) ∷ [])
 
   -- Some of what is stored, all else as it was.
   abbrev with : Bool → StoredTdh → InternalTdh → StoredCdw → Frame → List ℕ
@@ -45,7 +46,7 @@ module _ (t : Tracker) (s : State) (w : Word) where
 
   -- What is stored under a condition is stored, or stays.
   tdh-if : (internal opens : Bool) (here : ℕ)
-      → putIf opens 28 (1 ∷ here ∷ []) (putIf internal 23 (1 ∷ triggerBc w ∷ triggerOrbit w ∷ []) (sets moved 19 (1 ∷ triggerType w ∷ triggerBc w ∷ triggerOrbit w ∷ [])))
+      → putIf opens P.frame (1 ∷ here ∷ []) (putIf internal P.internal (1 ∷ triggerBc w ∷ triggerOrbit w ∷ []) (sets moved P.tdh (1 ∷ triggerType w ∷ triggerBc w ∷ triggerOrbit w ∷ [])))
       ≡ with (t .seen) (record { stored = true; trigger = triggerType w; bc = triggerBc w; orbit = triggerOrbit w }) (cond internal (record { stored = true; bc = triggerBc w; orbit = triggerOrbit w }) (t .internal)) (t .cdw) (cond opens (record { live = true; start = here }) (t .frame))
   unfolding encodeOf
   tdh-if true true here = refl
@@ -53,12 +54,12 @@ module _ (t : Tracker) (s : State) (w : Word) where
   tdh-if false true here = refl
   tdh-if false false here = refl
 
-  data-if : (first : Bool) → sets (putIf first 26 (1 ∷ userFields w ∷ []) moved) 16 (1 ∷ []) ≡ with true (t .tdh) (t .internal) (cond first (record { stored = true; user = userFields w }) (t .cdw)) (t .frame)
+  data-if : (first : Bool) → sets (putIf first P.cdw (1 ∷ userFields w ∷ []) moved) P.seen (1 ∷ []) ≡ with true (t .tdh) (t .internal) (cond first (record { stored = true; user = userFields w }) (t .cdw)) (t .frame)
   unfolding encodeOf
   data-if true = refl
   data-if false = refl
 
-  tdt-if : (closes : Bool) → putIf closes 28 (0 ∷ 0 ∷ []) moved ≡ with (t .seen) (t .tdh) (t .internal) (t .cdw) (cond closes noFrame (t .frame))
+  tdt-if : (closes : Bool) → putIf closes P.frame (0 ∷ 0 ∷ []) moved ≡ with (t .seen) (t .tdh) (t .internal) (t .cdw) (cond closes noFrame (t .frame))
   unfolding encodeOf
   tdt-if true = refl
   tdt-if false = refl
@@ -84,40 +85,40 @@ module _ (t : Tracker) (s : State) (w : Word) where
 
 -- What the code stores for a TDH, one part after the other.
 pub tdh-stored : (w : Word) (l : List ℕ) (here : ℕ) {bc orbit : ℕ} {internal opens : Bool} {first second last : List ℕ} → bc ≡ triggerBc w → orbit ≡ triggerOrbit w → internal ≡ eqb (internalTrigger w) 1
-    → opens ≡ (isOn (place l 2) && (not (isOn (place l 28)) && eqb (continuation w) 0)) → first ≡ sets l 19 (1 ∷ triggerType w ∷ triggerBc w ∷ triggerOrbit w ∷ [])
-    → second ≡ putIf internal 23 (1 ∷ bc ∷ orbit ∷ []) first → last ≡ putIf opens 28 (1 ∷ here ∷ []) second → last ≡ tdhStores w here l
+    → opens ≡ (isOn (place l P.frames) && (not (isOn (place l P.live)) && eqb (continuation w) 0)) → first ≡ sets l P.tdh (1 ∷ triggerType w ∷ triggerBc w ∷ triggerOrbit w ∷ [])
+    → second ≡ putIf internal P.internal (1 ∷ bc ∷ orbit ∷ []) first → last ≡ putIf opens P.frame (1 ∷ here ∷ []) second → last ≡ tdhStores w here l
 tdh-stored w l here b m n o p q r =
-    r ∙ (λ i. putIf (o i) 28 (1 ∷ here ∷ []) (q i))
-    ∙ (λ i. putIf (isOn (place l 2) && (not (isOn (place l 28)) && eqb (continuation w) 0)) 28 (1 ∷ here ∷ []) (putIf (n i) 23 (1 ∷ b i ∷ m i ∷ []) (p i)))
+    r ∙ (λ i. putIf (o i) P.frame (1 ∷ here ∷ []) (q i))
+    ∙ (λ i. putIf (isOn (place l P.frames) && (not (isOn (place l P.live)) && eqb (continuation w) 0)) P.frame (1 ∷ here ∷ []) (putIf (n i) P.internal (1 ∷ b i ∷ m i ∷ []) (p i)))
 
 -- One law for all kinds.
 pub stores-next : (t : Tracker) (a : Advanced) (w : Word)
-    → storesOf (a .word) w (positionNow t) (sets (encodeOf t) 14 (stateNumber (a .fsm .state) ∷ (t .count + 1) ∷ [])) ≡ encodeOf (nextOf t a w)
+    → storesOf (a .word) w (positionNow t) (sets (encodeOf t) P.reached (stateNumber (a .fsm .state) ∷ (t .count + 1) ∷ [])) ≡ encodeOf (nextOf t a w)
 stores-next t a w = by-kind t (a .fsm .state) w (a .word) (a .guessed)
 
 -- The same on numbers that are a tracker's.
 pub good-next : (l : List ℕ) (a : Advanced) (w : Word) → GoodArray l
-    → storesOf (a .word) w (positionNow (trackerIn l)) (sets l 14 (stateNumber (a .fsm .state) ∷ (place l 15 + 1) ∷ [])) ≡ encodeOf (nextOf (trackerIn l) a w)
+    → storesOf (a .word) w (positionNow (trackerIn l)) (sets l P.reached (stateNumber (a .fsm .state) ∷ (place l P.count + 1) ∷ [])) ≡ encodeOf (nextOf (trackerIn l) a w)
 good-next l a w h =
-    ap (λ (x : List ℕ). storesOf (a .word) w (positionNow (trackerIn l)) (sets x 14 (stateNumber (a .fsm .state) ∷ (place l 15 + 1) ∷ []))) (h .own)
+    ap (λ (x : List ℕ). storesOf (a .word) w (positionNow (trackerIn l)) (sets x P.reached (stateNumber (a .fsm .state) ∷ (place l P.count + 1) ∷ []))) (h .own)
     ∙ stores-next (trackerIn l) a w
 
 -- The same, with what the code stored on the way.
 pub by-stores : (l : List ℕ) (a : Advanced) (w : Word) (kind : ItsPayloadWord) {here : ℕ} {first last : List ℕ} → GoodArray l → here ≡ positionNow (trackerIn l) → a .word ≡ kind
-    → first ≡ sets l 14 (stateNumber (a .fsm .state) ∷ (place l 15 + 1) ∷ []) → last ≡ storesOf kind w here first → last ≡ encodeOf (nextOf (trackerIn l) a w)
+    → first ≡ sets l P.reached (stateNumber (a .fsm .state) ∷ (place l P.count + 1) ∷ []) → last ≡ storesOf kind w here first → last ≡ encodeOf (nextOf (trackerIn l) a w)
 by-stores l a w kind h p e q r = r ∙ (λ i. storesOf (sym e i) w (p i) (q i)) ∙ good-next l a w h
 
 -- A packet that is accepted, and a reset.
 pub accepts : (l : List ℕ) (p : Packet) → GoodArray l
-    → set (set (sets (set l 6 1) 7 (packetNumbers p)) 15 0) 16 0 ≡ encodeOf (acceptOf (trackerIn l) p)
+    → set (set (sets (set l P.accepted 1) P.packet (packetNumbers p)) P.count 0) P.seen 0 ≡ encodeOf (acceptOf (trackerIn l) p)
 unfolding encodeOf
-accepts l p h = ap (λ (x : List ℕ). set (set (sets (set x 6 1) 7 (packetNumbers p)) 15 0) 16 0) (h .own)
+accepts l p h = ap (λ (x : List ℕ). set (set (sets (set x P.accepted 1) P.packet (packetNumbers p)) P.count 0) P.seen 0) (h .own)
 
-pub resets : (l : List ℕ) → GoodArray l → set l 14 0 ≡ encodeOf (resetOf (trackerIn l))
+pub resets : (l : List ℕ) → GoodArray l → set l P.state 0 ≡ encodeOf (resetOf (trackerIn l))
 unfolding encodeOf
-resets l h = ap (λ (x : List ℕ). set x 14 0) (h .own)
+resets l h = ap (λ (x : List ℕ). set x P.state 0) (h .own)
 
 -- So many quiet data words.
-pub counts : (l : List ℕ) (n : ℕ) → GoodArray l → set (set l 15 (place l 15 + n)) 16 1 ≡ encodeOf (quietNext (trackerIn l) n)
+pub counts : (l : List ℕ) (n : ℕ) → GoodArray l → set (set l P.count (place l P.count + n)) P.seen 1 ≡ encodeOf (quietNext (trackerIn l) n)
 unfolding encodeOf
-counts l n h = ap (λ (x : List ℕ). set (set x 15 (place l 15 + n)) 16 1) (h .own)
+counts l n h = ap (λ (x : List ℕ). set (set x P.count (place l P.count + n)) P.seen 1) (h .own)

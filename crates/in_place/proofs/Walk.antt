@@ -26,6 +26,7 @@ use Rattle.payload.specs.Payload.{PayloadPost}
 use Rattle.payload.proofs.Loop as Loop
 use Rattle.payload.proofs.Loop.{Going, refused-1, refused-2, further-silent, ended, stopped}
 use Rattle.tracker_array.specs.Array.{encodeOf}
+use Rattle.tracker_array.specs.Place as P
 use Rattle.tracker_array.specs.Read.{place, isOn, trackerIn, Sized}
 use Rattle.tracker_array.specs.Good.{GoodArray}
 use Rattle.tracker_array.proofs.Laws.{reads-back}
@@ -55,7 +56,7 @@ module _ {a₀ b out₀ : List ℕ} where
         good = good-after e (g .ready .good, s);
       }
 
-  pub walk-start : GoodArray a₀ → isOn (place a₀ 6) ≡ true → length b % 10 ≡ 0 → Walk a₀ b out₀ a₀ out₀ 0 0
+  pub walk-start : GoodArray a₀ → isOn (place a₀ P.accepted) ≡ true → length b % 10 ≡ 0 → Walk a₀ b out₀ a₀ out₀ 0 0
   walk-start h have whole =
       record { going = Loop.start (record { good = h .good; accepted = have; whole = whole; within = omega arith; between = refl }); good = h }
 
@@ -73,7 +74,7 @@ module _ {a₀ b out₀ : List ℕ} where
   pub payload-1 : {r : PayloadTold} → GoodArray a₀ → (length b % 10 ≡ 0 → ⊥) → r ≡ record { words = 0; records = 0; refusal = 1 } → PayloadInPlace a₀ b out₀ r a₀ out₀
   payload-1 h e p = told-it p h (refused-1 (h .good) e)
 
-  pub payload-2 : {r : PayloadTold} → GoodArray a₀ → length b % 10 ≡ 0 → isOn (place a₀ 6) ≡ false → r ≡ record { words = 0; records = 0; refusal = 2 } → PayloadInPlace a₀ b out₀ r a₀ out₀
+  pub payload-2 : {r : PayloadTold} → GoodArray a₀ → length b % 10 ≡ 0 → isOn (place a₀ P.accepted) ≡ false → r ≡ record { words = 0; records = 0; refusal = 2 } → PayloadInPlace a₀ b out₀ r a₀ out₀
   payload-2 h whole e p = told-it p h (refused-2 (h .good) whole e)
 
   module _ {a out : List ℕ} {at used : ℕ} (k : Walk a₀ b out₀ a out at used) where
@@ -90,8 +91,8 @@ module _ {a₀ b out₀ : List ℕ} where
         place-is : (n : ℕ) → p .quiet .n ≡ n → to ≡ at + 10 * n
         place-is n e = p .quiet .to-is ∙ ap (λ (m : ℕ). at + 10 * m) e
 
-        numbers-are : (n : ℕ) → p .quiet .n ≡ n → l ≡ cond (eqb n 0) a (set (set a 15 (place a 15 + n)) 16 1)
-        numbers-are n e = p .numbers ∙ ap (λ (m : ℕ). cond (eqb m 0) a (set (set a 15 (place a 15 + m)) 16 1)) e
+        numbers-are : (n : ℕ) → p .quiet .n ≡ n → l ≡ cond (eqb n 0) a (set (set a P.count (place a P.count + n)) P.seen 1)
+        numbers-are n e = p .numbers ∙ ap (λ (m : ℕ). cond (eqb m 0) a (set (set a P.count (place a P.count + m)) P.seen 1)) e
 
         by : (n : ℕ) → p .quiet .n ≡ n → Walk a₀ b out₀ l out to used
         by zero e =
@@ -123,14 +124,14 @@ module _ {a₀ b out₀ : List ℕ} where
       on-part : {r : WordAnswer} {y : List ℕ} → WordPost (trackerIn a) bytes tail r y → WordPost (trackerIn a) (take 10 (midOf at (length b - at) b)) tail r y
       on-part {r} {y} w = subst (λ (l : List ℕ). WordPost (trackerIn a) (take 10 l) tail r y) (sym (mid-tail at b)) w
 
-      pub payload-3 : {r : PayloadTold} → maxWords ≤ place a 15 → r ≡ record { words = at / 10; records = used / 4; refusal = 3 } → PayloadInPlace a₀ b out₀ r a out
+      pub payload-3 : {r : PayloadTold} → maxWords ≤ place a P.count → r ≡ record { words = at / 10; records = used / 4; refusal = 3 } → PayloadInPlace a₀ b out₀ r a out
       payload-3 h p =
           let w : WordPost (trackerIn a) bytes tail (answerOf (trackerIn a) (refused 3)) tail = word-3 (trackerIn a) bytes tail (k .good .good) (eq-eqb _ _ ten) (k .going .ready .accepted) h refl in
           told-it p (k .good)
           (subst (λ (l : List ℕ). PayloadPost (trackerIn a₀) b out₀ (record { tracker = trackerIn a; words = at / 10; records = used / 4; refusal = 3 }) l) (back used (length out - used) out)
           (stopped (k .going) lt (on-part w) refl))
 
-      module _ (low : place a 15 < maxWords) {l y : List ℕ} where
+      module _ (low : place a P.count < maxWords) {l y : List ℕ} where
         pub walk-word : {n : ℕ} → StepInPlace a (wordOf bytes) tail (Records n) l y → length y ≡ length tail
             → Walk a₀ b out₀ l (putMid used (length out - used) out y) (at + 10) (used + 4 * n)
         walk-word s kept =

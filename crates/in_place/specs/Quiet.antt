@@ -14,6 +14,7 @@ use Rattle.payload_fsm.specs.declared.ItsPayloadWord.the-variants as K
 use Rattle.payload_fsm.specs.Step.{amongData}
 use Rattle.stored.specs.declared.FrameTold.the-variants as F
 use Rattle.cdp_running.specs.declared.Taken.{Taken}
+use Rattle.tracker_array.specs.Place as P
 use Rattle.tracker_array.specs.Read.{place, isOn, trackerIn}
 
 abbrev pub quietId : ℕ → ℕ → Bool
@@ -46,9 +47,9 @@ pub record QuietTo (a bytes : List ℕ) (at to : ℕ) : Type 0 where
   pub n : ℕ
   pub to-is : to ≡ at + wordBytes * n
   pub within : to ≤ length bytes
-  pub room : place a 15 + n ≤ maxWords
+  pub room : place a P.count + n ≤ maxWords
   pub among : (n ≡ 0 → ⊥) → amongData (trackerIn a .fsm .state) ≡ true
-  pub each : (i : ℕ) → i < n → quietId (checkedLanes (isOn (place a 1)) (place a 18)) (idAt bytes at i) ≡ true
+  pub each : (i : ℕ) → i < n → quietId (checkedLanes (isOn (place a P.running)) (place a P.lanes)) (idAt bytes at i) ≡ true
 
 -- What is told of one.
 abbrev pub quietTold : Taken
@@ -57,4 +58,4 @@ quietTold = record { kind = K.DataWord; guessed = false; records = 0; frame = F.
 -- They are taken: they are counted, and data is seen.
 pub record Passed (a bytes : List ℕ) (at to : ℕ) (after : List ℕ) : Type 0 where
   pub quiet : QuietTo a bytes at to
-  pub numbers : after ≡ cond (eqb (quiet .n) 0) a (set (set a 15 (place a 15 + quiet .n)) 16 1)
+  pub numbers : after ≡ cond (eqb (quiet .n) 0) a (set (set a P.count (place a P.count + quiet .n)) P.seen 1)

@@ -13,6 +13,7 @@ use Rattle.words.specs.Tdt.{packetDone}
 use Rattle.payload_fsm.specs.declared.ItsPayloadWord.{ItsPayloadWord}
 use Rattle.payload_fsm.specs.declared.ItsPayloadWord.the-variants as K
 use Rattle.stored.specs.Stored.{firstCdw}
+use Rattle.tracker_array.specs.Place as P
 use Rattle.tracker_array.specs.Read.{place, isOn}
 
 -- Numbers stored from a place on, if so.
@@ -20,22 +21,22 @@ abbrev pub putIf : Bool → ℕ → List ℕ → List ℕ → List ℕ
 putIf b at numbers a = cond b (sets a at numbers) a
 
 abbrev pub ihwStores : Word → List ℕ → List ℕ
-ihwStores w a = sets a 17 (1 ∷ activeLanes w ∷ [])
+ihwStores w a = sets a P.ihw (1 ∷ activeLanes w ∷ [])
 
 -- The TDH; where it is internal its crossing and its orbit; and a frame's start, where one opens here.
 abbrev pub tdhStores : Word → ℕ → List ℕ → List ℕ
 tdhStores w here a =
-    putIf (isOn (place a 2) && (not (isOn (place a 28)) && eqb (continuation w) 0)) 28 (1 ∷ here ∷ [])
-    (putIf (eqb (internalTrigger w) 1) 23 (1 ∷ triggerBc w ∷ triggerOrbit w ∷ [])
-    (sets a 19 (1 ∷ triggerType w ∷ triggerBc w ∷ triggerOrbit w ∷ [])))
+    putIf (isOn (place a P.frames) && (not (isOn (place a P.live)) && eqb (continuation w) 0)) P.frame (1 ∷ here ∷ [])
+    (putIf (eqb (internalTrigger w) 1) P.internal (1 ∷ triggerBc w ∷ triggerOrbit w ∷ [])
+    (sets a P.tdh (1 ∷ triggerType w ∷ triggerBc w ∷ triggerOrbit w ∷ [])))
 
 -- A first CDW, and that data is seen.
 abbrev pub dataStores : Word → List ℕ → List ℕ
-dataStores w a = sets (putIf (firstCdw (isOn (place a 16)) w) 26 (1 ∷ userFields w ∷ []) a) 16 (1 ∷ [])
+dataStores w a = sets (putIf (firstCdw (isOn (place a P.seen)) w) P.cdw (1 ∷ userFields w ∷ []) a) P.seen (1 ∷ [])
 
 -- No frame, where one closes here.
 abbrev pub tdtStores : Word → List ℕ → List ℕ
-tdtStores w a = putIf (isOn (place a 2) && packetDone w) 28 (0 ∷ 0 ∷ []) a
+tdtStores w a = putIf (isOn (place a P.frames) && packetDone w) P.frame (0 ∷ 0 ∷ []) a
 
 -- By kind. A DDW0 stores nothing.
 abbrev pub storesOf : ItsPayloadWord → Word → ℕ → List ℕ → List ℕ

@@ -8,6 +8,7 @@ ghost use Rattle.words.specs.Word.{wordBytes};
 ghost use Rattle.packet.specs.Packet.{maxWords};
 ghost use Rattle.records.specs.Records.{recordWidth};
 ghost use Rattle.cdp_running.specs.declared.Told.the-variants as T;
+ghost use Rattle.tracker_array.specs.Place as P;
 ghost use Rattle.tracker_array.specs.Read.{place, isOn};
 ghost use Rattle.tracker_array.specs.Good.{GoodArray};
 ghost use Rattle.in_place.specs.Quiet.{quietTold};
@@ -83,7 +84,7 @@ fn quiet_told() -> Told
 // A word that is not refused with 1, 2 or 3.
 fn taken_word(a: &mut [u64], bytes: &[u8], out: &mut [u64]) -> Told
     requires { ⌜ GoodArray (now a) ⌝ }
-    requires { ⌜ (length (now bytes) ≡ wordBytes) × ((isOn (place (now a) 6) ≡ true) × (place (now a) 15 < maxWords)) ⌝ }
+    requires { ⌜ (length (now bytes) ≡ wordBytes) × ((isOn (place (now a) P.accepted) ≡ true) × (place (now a) P.count < maxWords)) ⌝ }
     ensures { λ r. ⌜ WordInPlace (now (a .entry)) (now (bytes .entry)) (now (out .entry)) r (now (a .exit)) (now (out .exit)) ⌝ }
 {
     let word = step::load_at(bytes, 0);

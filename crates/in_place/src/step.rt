@@ -5,6 +5,7 @@ ghost use lib.ListN.{length, take, drop};
 ghost use Rattle.words.specs.Word.{wordBytes, wordOf};
 ghost use Rattle.packet.specs.Packet.{maxWords};
 ghost use Rattle.cdp_running.specs.Word.{takenAs, positionNow};
+ghost use Rattle.tracker_array.specs.Place as P;
 ghost use Rattle.tracker_array.specs.Read.{place, trackerIn};
 ghost use Rattle.tracker_array.specs.Good.{GoodArray};
 ghost use Rattle.in_place.specs.Calls.{StepInPlace};
@@ -63,7 +64,7 @@ pub(crate) fn taken_as(a: &[u64], word: Word) -> Advanced
 // One word at a place of a payload, which the packet still takes. Where there is no room for its records all stays.
 pub(crate) fn step(a: &mut [u64], bytes: &[u8], at: usize, out: &mut [u64]) -> Written
     requires { ⌜ GoodArray (now a) ⌝ }
-    requires { ⌜ place (now a) 15 < maxWords ⌝ }
+    requires { ⌜ place (now a) P.count < maxWords ⌝ }
     requires { ⌜ at + wordBytes ≤ length (now bytes) ⌝ }
     ensures { λ r. ⌜ StepInPlace (now (a .entry)) (wordOf (take wordBytes (drop at (now (bytes .entry))))) (now (out .entry)) r (now (a .exit)) (now (out .exit)) ⌝ }
 {

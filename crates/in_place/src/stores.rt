@@ -11,6 +11,7 @@ ghost use Rattle.cdp_running.specs.Tracker.{acceptOf};
 ghost use Rattle.cdp_running.specs.Next.{nextOf};
 ghost use Rattle.cdp_running.specs.Word.{positionNow};
 ghost use Rattle.tracker_array.specs.Array.{size, stateNumber, encodeOf};
+ghost use Rattle.tracker_array.specs.Place as P;
 ghost use Rattle.tracker_array.specs.Read.{place, trackerIn};
 ghost use Rattle.tracker_array.specs.Good.{GoodArray};
 ghost use Rattle.in_place.specs.Storing.{putIf, tdhStores, ihwStores, dataStores, tdtStores};
@@ -61,7 +62,7 @@ fn ihw(a: &mut [u64], word: Word)
 
 fn tdh_fields(a: &mut [u64], word: Word)
     requires { ⌜ length (now a) ≡ size ⌝ }
-    ensures { λ _. ⌜ now (a .exit) ≡ sets (now (a .entry)) 19 (1 ∷ triggerType word ∷ triggerBc word ∷ triggerOrbit word ∷ []) ⌝ }
+    ensures { λ _. ⌜ now (a .exit) ≡ sets (now (a .entry)) P.tdh (1 ∷ triggerType word ∷ triggerBc word ∷ triggerOrbit word ∷ []) ⌝ }
 {
     let tdh = Tdh { word: word };
     a[place::TDH] = 1;
@@ -108,8 +109,8 @@ fn tdt(a: &mut [u64], word: Word)
 // State and count.
 fn moved(a: &mut [u64], state: State)
     requires { ⌜ length (now a) ≡ size ⌝ }
-    requires { ⌜ place (now a) 15 < maxWords ⌝ }
-    ensures { λ _. ⌜ now (a .exit) ≡ sets (now (a .entry)) 14 (stateNumber state ∷ (place (now (a .entry)) 15 + 1) ∷ []) ⌝ }
+    requires { ⌜ place (now a) P.count < maxWords ⌝ }
+    ensures { λ _. ⌜ now (a .exit) ≡ sets (now (a .entry)) P.reached (stateNumber state ∷ (place (now (a .entry)) P.count + 1) ∷ []) ⌝ }
 {
     let count = a[place::COUNT] + 1;
     a[place::STATE] = states::state_number(state);
@@ -119,7 +120,7 @@ fn moved(a: &mut [u64], state: State)
 // The numbers after a word that is taken as `taken` says.
 pub(crate) fn word(a: &mut [u64], taken: Advanced, word: Word, here: u64)
     requires { ⌜ GoodArray (now a) ⌝ }
-    requires { ⌜ place (now a) 15 < maxWords ⌝ }
+    requires { ⌜ place (now a) P.count < maxWords ⌝ }
     requires { ⌜ here ≡ positionNow (trackerIn (now a)) ⌝ }
     ensures { λ _. ⌜ now (a .exit) ≡ encodeOf (nextOf (trackerIn (now (a .entry))) taken word) ⌝ }
 {

@@ -13,7 +13,7 @@ use Rattle.cdp_running.specs.declared.Tracker.{Tracker}
 use Rattle.cdp_running.specs.declared.Told.{Told}
 use Rattle.cdp_running.specs.declared.Told.the-variants.{Refused}
 use Rattle.cdp_running.specs.Tracker.{startOf}
-use Rattle.tracker_array.specs.Array.{writtenTo}
+use Rattle.tracker_array.specs.Array.{size, writtenTo}
 use Rattle.tracker_array.specs.Read.{isOn, ruleOf, trackerIn, isTracker, Is, Not, decodeOf}
 use Rattle.tracker_array.specs.Good.{GoodArray}
 use Rattle.tracker_array.proofs.Laws.{is-tracker, no-tracker, good-array}
@@ -39,10 +39,10 @@ stays true a = refl
 stays false a = refl
 
 module _ (a : List ℕ) (s : Asked) where
-  pub start-none : (length a ≡ 32 → ⊥) → StartOn a s noTracker a
+  pub start-none : (length a ≡ size → ⊥) → StartOn a s noTracker a
   start-none h = record { answer = simp (ne-eqb _ _ h); tracker = simp (ne-eqb _ _ h) (stays (areSettings s) a) }
 
-  module _ (long : length a ≡ 32) {r : Bool} (asked : r ≡ areSettings s) where
+  module _ (long : length a ≡ size) {r : Bool} (asked : r ≡ areSettings s) where
     pub start-refused : not r ≡ true → StartOn a s noSettings a
     start-refused e = let no = sym asked ∙ not-true r e in record { answer = simp (eq-eqb _ _ long, no); tracker = simp no }
 

@@ -18,7 +18,7 @@ use Rattle.cdp_running.specs.Word as Word
 use Rattle.cdp_running.specs.Word.{Outcome, taken, refused, wordCall}
 use Rattle.payload.specs.Payload.{Run, stop, wordsFrom, payloadCall}
 use Rattle.payload.proofs.Run.{step-taken, step-refused}
-use Rattle.tracker_array.specs.Array.{encodeOf}
+use Rattle.tracker_array.specs.Array.{size, encodeOf}
 use Rattle.tracker_array.specs.Read.{Decoded, Is, Not, decodeOf}
 use Rattle.tracker_array.proofs.Laws.{decode-encode, decoded-good, decoded-encodes}
 use Rattle.in_place.proofs.Kept.{Kept, kept-start, kept-reset, kept-packet, kept-word, kept-payload}
@@ -32,7 +32,7 @@ use Rattle.khandzorul.proofs.Exports.{period-fits}
 again : {t : Tracker} {after : List ℕ} → after ≡ encodeOf t → Kept t → decodeOf after ≡ Is t
 again {t} {after} p k = ap decodeOf p ∙ decode-encode t (k .0) (k .1)
 
-pub start-holds : (a : List ℕ) (s : Asked) {r : ℕ} {after : List ℕ} → StartOn a s r after → areSettings s ≡ true → length a ≡ 32
+pub start-holds : (a : List ℕ) (s : Asked) {r : ℕ} {after : List ℕ} → StartOn a s r after → areSettings s ≡ true → length a ≡ size
     → decodeOf after ≡ Is (startOf (settingsFrom s))
 start-holds a s w h l =
     again (simp (h, eq-eqb _ _ l) at (w .tracker)) (kept-start (settingsFrom s) (λ on. let low = period-fits s h on in omega arith))
@@ -57,7 +57,7 @@ module _ (a : List ℕ) (t : Tracker) (e : decodeOf a ≡ Is t) where
 
 -- A refused start, packet or reset leaves the numbers as they were.
 pub start-refused : (a : List ℕ) (s : Asked) {r : ℕ} {after : List ℕ} → StartOn a s r after → (r ≡ 0 → ⊥) → after ≡ a
-start-refused a s {r} {after} w h = at (eqb (length a) 32) (areSettings s) (w .answer) (w .tracker)
+start-refused a s {r} {after} w h = at (eqb (length a) size) (areSettings s) (w .answer) (w .tracker)
   where
     at : (long are : Bool) → r ≡ cond long (cond are 0 noSettings) noTracker → after ≡ cond are (cond long (encodeOf (startOf (settingsFrom s))) a) a → after ≡ a
     at true true p q = absurd (h p)

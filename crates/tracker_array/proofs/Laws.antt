@@ -14,7 +14,8 @@ use Rattle.packet.specs.declared.Rule.{Rule}
 use Rattle.packet.specs.declared.Rule.the-variants as R
 use Rattle.cdp_running.specs.declared.Tracker.{Tracker}
 use Rattle.cdp_running.specs.Tracker.{Good}
-use Rattle.tracker_array.specs.Array.{flag, ruleNumber, stateNumber, encodeOf}
+use Rattle.tracker_array.specs.Array.{size, flag, ruleNumber, stateNumber, encodeOf}
+use Rattle.tracker_array.specs.Place as P
 use Rattle.tracker_array.specs.Read.{place, isOn, isFlag, isRule, ruleOf, trackerIn, inForm, Sized, isGood, isTracker, Is, Not, decodeOf}
 use Rattle.tracker_array.specs.Good.{InForm, Fits, GoodArray}
 use Rattle.tracker_array.proofs.State.{state-back, state-low, number-back}
@@ -52,9 +53,9 @@ number-rule n two = at (eqb n 1) refl
     at false p = rw (two p) refl
 
 -- A tracker's numbers pass three tests.
-tracker-is : (a : List ℕ) → (isTracker a ≡ true) ↔ ((length a ≡ 32) × ((inForm a ≡ true) × (isGood (trackerIn a) ≡ true)))
+tracker-is : (a : List ℕ) → (isTracker a ≡ true) ↔ ((length a ≡ size) × ((inForm a ≡ true) × (isGood (trackerIn a) ≡ true)))
 unfolding isTracker
-tracker-is a = (λ e. let (l, rest) = both (eqb (length a) 32) _ e in (eqb-true _ _ l, both (inForm a) _ rest), λ (l, rest). and-is _ _ .1 (eq-eqb _ _ l, and-is _ _ .1 rest))
+tracker-is a = (λ e. let (l, rest) = both (eqb (length a) size) _ e in (eqb-true _ _ l, both (inForm a) _ rest), λ (l, rest). and-is _ _ .1 (eq-eqb _ _ l, and-is _ _ .1 rest))
 
 module _ (t : Tracker) where
   pub reads-back : trackerIn (encodeOf t) ≡ t
@@ -65,7 +66,7 @@ module _ (t : Tracker) where
   unfolding encodeOf
   form-back = simp (flag-low, rule-low, le-leb (stateNumber (t .fsm .state)) 6 (state-low (t .fsm .state)))
 
-  long-back : length (encodeOf t) ≡ 32
+  long-back : length (encodeOf t) ≡ size
   unfolding encodeOf
   long-back = refl
 
@@ -86,8 +87,8 @@ pub written : (a : List ℕ) → isTracker a ≡ true → a ≡ encodeOf (tracke
 unfolding numbersFrom encodeOf
 written a e =
     let (long, (form, good)) = tracker-is a .0 e in
-    let (m, ((f1, (f2, (f3, (f6, (f16, (f17, (f19, (f23, (f26, f28))))))))), (two, (low, (z30, z31))))) = simp tests at form in
-    sym (spelled 32 0 a long) ∙ simp (m, number-flag, number-rule (place a 5) two, number-back, z30, z31)
+    let (m, ((running, (frames, (periodic, (accepted, (seen, (ihw, (tdh, (internal, (cdw, live))))))))), (two, (low, (first, second))))) = simp tests at form in
+    sym (spelled size 0 a long) ∙ simp (m, number-flag, number-rule (place a P.rule) two, number-back, first, second)
 
 -- What they are read as is a tracker that the start or a call can have given.
 pub tracker-good : (a : List ℕ) → isTracker a ≡ true → Good (trackerIn a) × Sized (trackerIn a)
@@ -99,11 +100,11 @@ tracker-fits a e =
     let (long, (form, tested)) = tracker-is a .0 e in
     let (good, sized) = tests-good (trackerIn a) tested in
     let (position, (orbit, (trigger, (bc, (page, (stop, two)))))) = simp tests at (good .packet) in
-    let format = at (eqb (place a 13) 0) refl two in
+    let format = at (eqb (place a P.format) 0) refl two in
     omega arith
   where
-    at : (b : Bool) → eqb (place a 13) 0 ≡ b → (b ≡ false → place a 13 ≡ 2) → place a 13 < 2 ^ 8
-    at true none two = omega (arith, eqb-true (place a 13) 0 none)
+    at : (b : Bool) → eqb (place a P.format) 0 ≡ b → (b ≡ false → place a P.format ≡ 2) → place a P.format < 2 ^ 8
+    at true none two = omega (arith, eqb-true (place a P.format) 0 none)
     at false some two = omega (arith, two refl)
 
 -- The invariant of an array is the test, in both directions; a tracker's own numbers meet it.
@@ -117,10 +118,10 @@ pub array-good : (a : List ℕ) → GoodArray a → isTracker a ≡ true
 array-good a h = ap isTracker (h .own) ∙ tracker-back (trackerIn a) (h .good) (h .sized)
 
 -- Numbers that passed the test of form.
-pub in-form : (a : List ℕ) → length a ≡ 32 → inForm a ≡ true → InForm a
+pub in-form : (a : List ℕ) → length a ≡ size → inForm a ≡ true → InForm a
 in-form a long e =
-    let (m, ((f1, (f2, (f3, (f6, (f16, (f17, (f19, (f23, (f26, f28))))))))), (two, (low, (z30, z31))))) = simp tests at e in
-    record { long = long; periodic = f3; ihw = f17; tdh = f19; internal = f23; cdw = f26; live = f28 }
+    let (m, ((running, (frames, (periodic, (accepted, (seen, (ihw, (tdh, (internal, (cdw, live))))))))), (two, (low, (first, second))))) = simp tests at e in
+    record { long = long; periodic = periodic; ihw = ihw; tdh = tdh; internal = internal; cdw = cdw; live = live }
 
 module _ (a : List ℕ) (t : Tracker) (e : decodeOf a ≡ Is t) where
   decoded : (isTracker a ≡ true) × (trackerIn a ≡ t)
@@ -138,25 +139,25 @@ module _ (a : List ℕ) (t : Tracker) (e : decodeOf a ≡ Is t) where
   pub decoded-encodes : a ≡ encodeOf t
   decoded-encodes = written a (decoded .0) ∙ ap encodeOf (decoded .1)
 
-  pub decoded-long : length a ≡ 32
+  pub decoded-long : length a ≡ size
   decoded-long = tracker-is a .0 (decoded .0) .0
 
 -- Zeros are no tracker, and neither is an array of another length.
-pub zeros-none : decodeOf (replicate 32 0) ≡ Not
+pub zeros-none : decodeOf (replicate size 0) ≡ Not
 unfolding decodeOf isTracker
 zeros-none = refl
 
-pub another-length : (a : List ℕ) → (length a ≡ 32 → ⊥) → decodeOf a ≡ Not
+pub another-length : (a : List ℕ) → (length a ≡ size → ⊥) → decodeOf a ≡ Not
 unfolding decodeOf isTracker
 another-length a h = simp (ne-eqb _ _ h)
 
 -- What the code tests, one half after the other, and what it gives.
 module _ (a : List ℕ) where
-  pub tested : {f g : Bool} → length a ≡ 32 → f ≡ inForm a → g ≡ isGood (trackerIn a) → isTracker a ≡ (f && g)
+  pub tested : {f g : Bool} → length a ≡ size → f ≡ inForm a → g ≡ isGood (trackerIn a) → isTracker a ≡ (f && g)
   unfolding isTracker
   tested l p q = simp (eq-eqb _ _ l, p, q)
 
-  pub of-length : (length a ≡ 32 → ⊥) → isTracker a ≡ false
+  pub of-length : (length a ≡ size → ⊥) → isTracker a ≡ false
   unfolding isTracker
   of-length h = simp (ne-eqb _ _ h)
 

@@ -8,7 +8,7 @@ use lib.ListN.{length, getD, drop, drop-of-length-le}
 use lib.Seq.{sets, sets-eq, drop-cons}
 use borrow.Author.Tests.{eq-eqb, ne-eqb}
 use Rattle.cdp_running.specs.declared.Tracker.{Tracker}
-use Rattle.tracker_array.specs.Array.{encodeOf, writtenTo}
+use Rattle.tracker_array.specs.Array.{size, encodeOf, writtenTo}
 
 pub all-set : (vs d : List ℕ) → length d ≡ length vs → sets d 0 vs ≡ vs
 all-set vs d e =
@@ -28,8 +28,8 @@ spelled zero i a e = let past : length a ≤ i = omega arith in sym (drop-of-len
 spelled (suc n) i a e = sym (drop-cons a i 0 (omega arith) ∙ ap (λ (l : List ℕ). getD a i 0 ∷ l) (sym (spelled n (suc i) a (omega arith))))
 
 -- A tracker written to an array of its length, and to another.
-pub wrote : (a : List ℕ) (t : Tracker) → length a ≡ 32 → encodeOf t ≡ writtenTo a t
+pub wrote : (a : List ℕ) (t : Tracker) → length a ≡ size → encodeOf t ≡ writtenTo a t
 wrote a t l = simp (eq-eqb _ _ l)
 
-pub left : (a : List ℕ) (t : Tracker) → (length a ≡ 32 → ⊥) → a ≡ writtenTo a t
+pub left : (a : List ℕ) (t : Tracker) → (length a ≡ size → ⊥) → a ≡ writtenTo a t
 left a t h = simp (ne-eqb _ _ h)

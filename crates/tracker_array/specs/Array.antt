@@ -43,42 +43,35 @@ abbrev pub ruleNumber : Rule → ℕ
 ruleNumber R.One = 1
 ruleNumber R.Two = 2
 
--- 1 to 5
 abbrev pub settingsNumbers : Settings → List ℕ
 settingsNumbers s = flag (s .running) ∷ flag (s .frames) ∷ flag (s .periodic) ∷ s .period ∷ ruleNumber (s .rule) ∷ []
 
--- 7 to 13
 abbrev pub packetNumbers : Packet → List ℕ
 packetNumbers p = p .position ∷ p .orbit ∷ p .trigger ∷ p .bc ∷ p .page ∷ p .stop ∷ p .format ∷ []
 
--- 17, 18
 abbrev pub ihwNumbers : StoredIhw → List ℕ
 ihwNumbers i = flag (i .stored) ∷ i .lanes ∷ []
 
--- 19 to 22
 abbrev pub tdhNumbers : StoredTdh → List ℕ
 tdhNumbers h = flag (h .stored) ∷ h .trigger ∷ h .bc ∷ h .orbit ∷ []
 
--- 23 to 25
 abbrev pub internalNumbers : InternalTdh → List ℕ
 internalNumbers i = flag (i .stored) ∷ i .bc ∷ i .orbit ∷ []
 
--- 26, 27
 abbrev pub cdwNumbers : StoredCdw → List ℕ
 cdwNumbers c = flag (c .stored) ∷ c .user ∷ []
 
--- 28, 29
 abbrev pub frameNumbers : Frame → List ℕ
 frameNumbers f = flag (f .live) ∷ f .start ∷ []
 
--- The mark at 0, whether a packet was accepted at 6, state, count and "data seen" at 14 to 16.
+-- The mark, the settings, whether a packet was accepted, the packet, and state, count and "data seen".
 abbrev pub firstNumbers : Settings → Bool → Packet → State → ℕ → Bool → List ℕ
 firstNumbers settings accepted packet state count seen =
     (mark ∷ [])
     ++ (settingsNumbers settings
     ++ ((flag accepted ∷ []) ++ (packetNumbers packet ++ (stateNumber state ∷ count ∷ flag seen ∷ []))))
 
--- What is stored, from 17 on, and nothing at 30 and 31.
+-- What is stored, and nothing after it.
 abbrev pub storedNumbers : StoredIhw → StoredTdh → InternalTdh → StoredCdw → Frame → List ℕ
 storedNumbers ihw tdh internal cdw frame =
     ihwNumbers ihw

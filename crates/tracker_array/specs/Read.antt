@@ -1,6 +1,6 @@
 -- Which numbers are a tracker, and which one: those that the start and the calls can have written, and no others.
 -- Assumes nothing.
-use Prim.Native.Nat.{ℕ, _<_, _^_}
+use Prim.Native.Nat.{ℕ, _+_, _<_, _^_}
 use mathlib.Core.Bool.{Bool, true, false, cond, not, _&&_, _||_}
 use mathlib.Core.List.{List}
 use lib.Dec.{leb, ltb, eqb}
@@ -20,6 +20,7 @@ use Rattle.stored.specs.declared.Frame.{Frame}
 use Rattle.cdp_running.specs.declared.Tracker.{Tracker}
 use Rattle.cdp_running.specs.Tracker.{pastIhw, pastTdh}
 use Rattle.tracker_array.specs.Array.{size, mark}
+use Rattle.tracker_array.specs.Place as P
 
 abbrev pub place : List ℕ → ℕ → ℕ
 place a i = getD a i 0
@@ -47,49 +48,49 @@ ruleOf n = cond (eqb n 2) R.Two R.One
 abbrev pub settingsIn : List ℕ → Settings
 settingsIn a =
     record {
-      running = isOn (place a 1);
-      frames = isOn (place a 2);
-      periodic = isOn (place a 3);
-      period = place a 4;
-      rule = ruleOf (place a 5);
+      running = isOn (place a P.running);
+      frames = isOn (place a P.frames);
+      periodic = isOn (place a P.periodic);
+      period = place a P.period;
+      rule = ruleOf (place a P.rule);
     }
 
 abbrev pub packetIn : List ℕ → Packet
 packetIn a =
     record {
-      position = place a 7;
-      orbit = place a 8;
-      trigger = place a 9;
-      bc = place a 10;
-      page = place a 11;
-      stop = place a 12;
-      format = place a 13;
+      position = place a P.position;
+      orbit = place a P.orbit;
+      trigger = place a P.trigger;
+      bc = place a P.bc;
+      page = place a P.page;
+      stop = place a P.stop;
+      format = place a P.format;
     }
 
 abbrev pub ihwIn : List ℕ → StoredIhw
-ihwIn a = record { stored = isOn (place a 17); lanes = place a 18 }
+ihwIn a = record { stored = isOn (place a P.ihw); lanes = place a P.lanes }
 
 abbrev pub tdhIn : List ℕ → StoredTdh
-tdhIn a = record { stored = isOn (place a 19); trigger = place a 20; bc = place a 21; orbit = place a 22 }
+tdhIn a = record { stored = isOn (place a P.tdh); trigger = place a P.tdhTrigger; bc = place a P.tdhBc; orbit = place a P.tdhOrbit }
 
 abbrev pub internalIn : List ℕ → InternalTdh
-internalIn a = record { stored = isOn (place a 23); bc = place a 24; orbit = place a 25 }
+internalIn a = record { stored = isOn (place a P.internal); bc = place a P.internalBc; orbit = place a P.internalOrbit }
 
 abbrev pub cdwIn : List ℕ → StoredCdw
-cdwIn a = record { stored = isOn (place a 26); user = place a 27 }
+cdwIn a = record { stored = isOn (place a P.cdw); user = place a P.cdwUser }
 
 abbrev pub frameIn : List ℕ → Frame
-frameIn a = record { live = isOn (place a 28); start = place a 29 }
+frameIn a = record { live = isOn (place a P.live); start = place a P.start }
 
 abbrev pub trackerIn : List ℕ → Tracker
 trackerIn a =
     record {
       settings = settingsIn a;
-      accepted = isOn (place a 6);
+      accepted = isOn (place a P.accepted);
       packet = packetIn a;
-      fsm = record { state = stateOf (place a 14) };
-      count = place a 15;
-      seen = isOn (place a 16);
+      fsm = record { state = stateOf (place a P.state) };
+      count = place a P.count;
+      seen = isOn (place a P.seen);
       ihw = ihwIn a;
       tdh = tdhIn a;
       internal = internalIn a;
@@ -100,19 +101,19 @@ trackerIn a =
 -- The form: the mark, flags that are 0 or 1, one of the two rules, one of the seven states, and 0 where nothing stands.
 abbrev pub flagsFit : List ℕ → Bool
 flagsFit a =
-    isFlag (place a 1)
-    && (isFlag (place a 2)
-    && (isFlag (place a 3)
-    && (isFlag (place a 6)
-    && (isFlag (place a 16)
-    && (isFlag (place a 17)
-    && (isFlag (place a 19) && (isFlag (place a 23) && (isFlag (place a 26) && isFlag (place a 28)))))))))
+    isFlag (place a P.running)
+    && (isFlag (place a P.frames)
+    && (isFlag (place a P.periodic)
+    && (isFlag (place a P.accepted)
+    && (isFlag (place a P.seen)
+    && (isFlag (place a P.ihw)
+    && (isFlag (place a P.tdh) && (isFlag (place a P.internal) && (isFlag (place a P.cdw) && isFlag (place a P.live)))))))))
 
 abbrev pub unused : List ℕ → Bool
-unused a = eqb (place a 30) 0 && eqb (place a 31) 0
+unused a = eqb (place a P.unused) 0 && eqb (place a (P.unused + 1)) 0
 
 abbrev pub inForm : List ℕ → Bool
-inForm a = eqb (place a 0) mark && (flagsFit a && (isRule (place a 5) && (leb (place a 14) 6 && unused a)))
+inForm a = eqb (place a P.mark) mark && (flagsFit a && (isRule (place a P.rule) && (leb (place a P.state) 6 && unused a)))
 
 -- What fits the widths of its types and the invariant does not speak of.
 pub record Sized (t : Tracker) : Type 0 where

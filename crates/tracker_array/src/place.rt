@@ -1,4 +1,6 @@
-// Where each number of a tracker stands; the mark is the first.
+// Where each number of a tracker stands. specs/Place.antt has the same names.
+pub const MARK: usize = 0;
+
 pub const RUNNING: usize = 1;
 
 pub const FRAMES: usize = 2;
@@ -56,3 +58,6 @@ pub const CDW_USER: usize = 27;
 pub const LIVE: usize = 28;
 
 pub const START: usize = 29;
+
+// Nothing stands from here on.
+pub const UNUSED: usize = 30;

@@ -7,6 +7,7 @@ ghost use lib.ListN.{length};
 ghost use Rattle.packet.specs.Packet.{inRange, maxWords};
 ghost use Rattle.cdp_running.specs.Tracker.{pastIhw, pastTdh};
 ghost use Rattle.tracker_array.specs.Array.{size};
+ghost use Rattle.tracker_array.specs.Place as P;
 ghost use Rattle.tracker_array.specs.Read.{place, isOn, stateOf, settingsIn, packetIn, ihwIn, tdhIn, internalIn, cdwIn, frameIn, trackerIn, flagsFit, unused, inForm, settingsGood, ihwGood, tdhGood, internalGood, cdwGood, frameGood, present, packetBlank, inStart, blank, isGood};
 ghost use Rattle.tracker_array.specs.Good.{InForm};
 use crate::MARK;
@@ -35,7 +36,7 @@ fn unused(a: &[u64]) -> bool
     requires { ⌜ length (now a) ≡ size ⌝ }
     ensures { λ r. ⌜ r ≡ unused (now (a .entry)) ⌝ }
 {
-    (a[30] == 0) & (a[31] == 0)
+    (a[place::UNUSED] == 0) & (a[place::UNUSED + 1] == 0)
 }
 
 // The mark, flags, a rule, a state, and nothing where nothing stands.
@@ -43,7 +44,7 @@ pub(crate) fn in_form(a: &[u64]) -> bool
     requires { ⌜ length (now a) ≡ size ⌝ }
     ensures { λ r. ⌜ r ≡ inForm (now (a .entry)) ⌝ }
 {
-    (a[0] == MARK)
+    (a[place::MARK] == MARK)
         & (flags_fit(a) & (rules::is_rule(a[place::RULE]) & ((a[place::STATE] <= 6) & unused(a))))
 }
 
@@ -119,7 +120,7 @@ fn frame(a: &[u64]) -> bool
 // What came in: settings, packet and count.
 fn came_good(a: &[u64]) -> bool
     requires { ⌜ InForm (now a) ⌝ }
-    ensures { λ r. ⌜ r ≡ (settingsGood (settingsIn (now (a .entry))) && (inRange (packetIn (now (a .entry))) && leb (place (now (a .entry)) 15) maxWords)) ⌝ }
+    ensures { λ r. ⌜ r ≡ (settingsGood (settingsIn (now (a .entry))) && (inRange (packetIn (now (a .entry))) && leb (place (now (a .entry)) P.count) maxWords)) ⌝ }
 {
     if !settings(a) {
         return false;
@@ -207,7 +208,7 @@ fn blank(a: &[u64]) -> bool
 // With a packet, or as the start gave it.
 fn begun(a: &[u64]) -> bool
     requires { ⌜ InForm (now a) ⌝ }
-    ensures { λ r. ⌜ r ≡ (isOn (place (now (a .entry)) 6) || (packetBlank (packetIn (now (a .entry))) && blank (trackerIn (now (a .entry))))) ⌝ }
+    ensures { λ r. ⌜ r ≡ (isOn (place (now (a .entry)) P.accepted) || (packetBlank (packetIn (now (a .entry))) && blank (trackerIn (now (a .entry))))) ⌝ }
 {
     if a[place::ACCEPTED] == 1 {
         return true;

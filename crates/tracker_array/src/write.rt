@@ -5,6 +5,7 @@ ghost use mathlib.Core.List.{[], _∷_};
 ghost use lib.ListN.{length};
 ghost use lib.Seq.{sets};
 ghost use Rattle.tracker_array.specs.Array.{size, mark, flag, stateNumber, settingsNumbers, packetNumbers, tdhNumbers, internalNumbers, firstNumbers, storedNumbers};
+ghost use Rattle.tracker_array.specs.Place as P;
 use crate::MARK;
 use crate::place;
 use crate::rules;
@@ -26,7 +27,7 @@ fn flag(b: bool) -> u64
 
 fn settings(s: Settings, a: &mut [u64])
     requires { ⌜ length (now a) ≡ size ⌝ }
-    ensures { λ _. ⌜ now (a .exit) ≡ sets (now (a .entry)) 1 (settingsNumbers s) ⌝ }
+    ensures { λ _. ⌜ now (a .exit) ≡ sets (now (a .entry)) P.settings (settingsNumbers s) ⌝ }
 {
     a[place::RUNNING] = flag(s.running);
     a[place::FRAMES] = flag(s.frames);
@@ -38,7 +39,7 @@ fn settings(s: Settings, a: &mut [u64])
 
 fn packet(p: Packet, a: &mut [u64])
     requires { ⌜ length (now a) ≡ size ⌝ }
-    ensures { λ _. ⌜ now (a .exit) ≡ sets (now (a .entry)) 7 (packetNumbers p) ⌝ }
+    ensures { λ _. ⌜ now (a .exit) ≡ sets (now (a .entry)) P.packet (packetNumbers p) ⌝ }
 {
     a[place::POSITION] = p.position;
     a[place::ORBIT] = p.orbit as u64;
@@ -61,7 +62,7 @@ fn held(there: bool, n: u64, at: usize, a: &mut [u64])
 
 fn tdh(h: StoredTdh, a: &mut [u64])
     requires { ⌜ length (now a) ≡ size ⌝ }
-    ensures { λ _. ⌜ now (a .exit) ≡ sets (now (a .entry)) 19 (tdhNumbers h) ⌝ }
+    ensures { λ _. ⌜ now (a .exit) ≡ sets (now (a .entry)) P.tdh (tdhNumbers h) ⌝ }
 {
     a[place::TDH] = flag(h.stored);
     a[place::TDH_TRIGGER] = h.trigger as u64;
@@ -71,7 +72,7 @@ fn tdh(h: StoredTdh, a: &mut [u64])
 
 fn internal(h: InternalTdh, a: &mut [u64])
     requires { ⌜ length (now a) ≡ size ⌝ }
-    ensures { λ _. ⌜ now (a .exit) ≡ sets (now (a .entry)) 23 (internalNumbers h) ⌝ }
+    ensures { λ _. ⌜ now (a .exit) ≡ sets (now (a .entry)) P.internal (internalNumbers h) ⌝ }
 {
     a[place::INTERNAL] = flag(h.stored);
     a[place::INTERNAL_BC] = h.bc as u64;
@@ -80,21 +81,21 @@ fn internal(h: InternalTdh, a: &mut [u64])
 
 fn mark(a: &mut [u64])
     requires { ⌜ length (now a) ≡ size ⌝ }
-    ensures { λ _. ⌜ now (a .exit) ≡ sets (now (a .entry)) 0 (mark ∷ []) ⌝ }
+    ensures { λ _. ⌜ now (a .exit) ≡ sets (now (a .entry)) P.mark (mark ∷ []) ⌝ }
 {
-    a[0] = MARK;
+    a[place::MARK] = MARK;
 }
 
 fn accepted(b: bool, a: &mut [u64])
     requires { ⌜ length (now a) ≡ size ⌝ }
-    ensures { λ _. ⌜ now (a .exit) ≡ sets (now (a .entry)) 6 (flag b ∷ []) ⌝ }
+    ensures { λ _. ⌜ now (a .exit) ≡ sets (now (a .entry)) P.accepted (flag b ∷ []) ⌝ }
 {
     a[place::ACCEPTED] = flag(b);
 }
 
 fn reached(state: State, count: u16, seen: bool, a: &mut [u64])
     requires { ⌜ length (now a) ≡ size ⌝ }
-    ensures { λ _. ⌜ now (a .exit) ≡ sets (now (a .entry)) 14 (stateNumber state ∷ count ∷ flag seen ∷ []) ⌝ }
+    ensures { λ _. ⌜ now (a .exit) ≡ sets (now (a .entry)) P.reached (stateNumber state ∷ count ∷ flag seen ∷ []) ⌝ }
 {
     a[place::STATE] = states::state_number(state);
     a[place::COUNT] = count as u64;
@@ -103,10 +104,10 @@ fn reached(state: State, count: u16, seen: bool, a: &mut [u64])
 
 fn rest(a: &mut [u64])
     requires { ⌜ length (now a) ≡ size ⌝ }
-    ensures { λ _. ⌜ now (a .exit) ≡ sets (now (a .entry)) 30 (0 ∷ 0 ∷ []) ⌝ }
+    ensures { λ _. ⌜ now (a .exit) ≡ sets (now (a .entry)) P.unused (0 ∷ 0 ∷ []) ⌝ }
 {
-    a[30] = 0;
-    a[31] = 0;
+    a[place::UNUSED] = 0;
+    a[place::UNUSED + 1] = 0;
 }
 
 pub(crate) fn first(
@@ -119,7 +120,7 @@ pub(crate) fn first(
     a: &mut [u64],
 )
     requires { ⌜ length (now a) ≡ size ⌝ }
-    ensures { λ _. ⌜ now (a .exit) ≡ sets (now (a .entry)) 0 (firstNumbers s b p state count seen) ⌝ }
+    ensures { λ _. ⌜ now (a .exit) ≡ sets (now (a .entry)) P.mark (firstNumbers s b p state count seen) ⌝ }
 {
     mark(a);
     settings(s, a);
@@ -137,7 +138,7 @@ pub(crate) fn stored(
     a: &mut [u64],
 )
     requires { ⌜ length (now a) ≡ size ⌝ }
-    ensures { λ _. ⌜ now (a .exit) ≡ sets (now (a .entry)) 17 (storedNumbers ihw h i cdw frame) ⌝ }
+    ensures { λ _. ⌜ now (a .exit) ≡ sets (now (a .entry)) P.stored (storedNumbers ihw h i cdw frame) ⌝ }
 {
     held(ihw.stored, ihw.lanes as u64, place::IHW, a);
     tdh(h, a);

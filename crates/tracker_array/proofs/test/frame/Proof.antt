@@ -3,6 +3,7 @@
 use denote.Ref.{now}
 use mathlib.Core.Bool.{and-assoc}
 use Rattle.packet.specs.Packet.{mostPosition}
+use Rattle.tracker_array.specs.Place as P
 use Rattle.tracker_array.specs.Read.{place}
 use Rattle.tracker_array.proofs.Kept.{below}
 use borrow.Author.Needs.{needs}
@@ -10,7 +11,7 @@ use Rattle.tracker_array.proofs.test.frame.Statement.{statement}
 use Rattle.tracker_array.proofs.test.frame.Tie as tie
 
 returns : tie.Need-returns
-returns c = simp (c .before .fits2 .ensures, below (place (now (c .before .before .before .before .before .args .a)) 29) mostPosition, and-assoc)
+returns c = simp (c .before .fits2 .ensures, below (place (now (c .before .before .before .before .before .args .a)) P.start) mostPosition, and-assoc)
 
 pub frame-spec : {M : Type 1} → statement M
 frame-spec = tie.close (tie.spec (λ c. search needs) (λ c. search needs) (λ c. search needs) (λ c. search needs) returns)

@@ -2,6 +2,7 @@
 -- Assumes nothing.
 use denote.Ref.{now}
 use lib.Dec.{ltb, eqb}
+use Rattle.tracker_array.specs.Place as P
 use Rattle.tracker_array.specs.Read.{place, isOn}
 use Rattle.tracker_array.proofs.Kept.{two}
 use borrow.Author.Needs.{needs}
@@ -12,7 +13,7 @@ returns : tie.Need-returns
 returns c =
     let l = now (c .before .before .before .before .before .before .args .a) in
     simp (c .before .before .fits2 .ensures, c .fits3 .ensures)
-    (two (isOn (place l 23)) (ltb (place l 24) 0x1000) (ltb (place l 25) 0x100000000) (eqb (place l 24) 0) (eqb (place l 25) 0))
+    (two (isOn (place l P.internal)) (ltb (place l P.internalBc) 0x1000) (ltb (place l P.internalOrbit) 0x100000000) (eqb (place l P.internalBc) 0) (eqb (place l P.internalOrbit) 0))
 
 pub internal-spec : {M : Type 1} → statement M
 internal-spec = tie.close (tie.spec (λ c. search needs) (λ c. search needs) (λ c. search needs) (λ c. search needs) (λ c. search needs) returns)

@@ -8,6 +8,7 @@ use Prim.Native.Nat.{ℕ}
 use lib.Dec.{leb}
 use Rattle.words.proofs.Tests.{fails, holds}
 use Rattle.packet.specs.Packet.{inRange, maxWords}
+use Rattle.tracker_array.specs.Place as P
 use Rattle.tracker_array.specs.Read.{place, isOn, settingsIn, packetIn, ihwIn, tdhIn, internalIn, cdwIn, frameIn, trackerIn, settingsGood, ihwGood, tdhGood, internalGood, cdwGood, frameGood, present, packetBlank, blank, isGood}
 use borrow.Author.Needs.{needs}
 use Rattle.tracker_array.proofs.test.is_good.Statement.{statement}
@@ -15,9 +16,9 @@ use Rattle.tracker_array.proofs.test.is_good.Tie as tie
 
 -- The parts in the groups that the code asks.
 grouped : (l : List ℕ)
-    → ((settingsGood (settingsIn l) && (inRange (packetIn l) && leb (place l 15) maxWords))
-    && ((ihwGood (ihwIn l) && (tdhGood (tdhIn l) && (internalGood (internalIn l) && (cdwGood (cdwIn l) && frameGood (isOn (place l 2)) (frameIn l)))))
-    && (present (trackerIn l .fsm .state) (ihwIn l) (tdhIn l) && (isOn (place l 6) || (packetBlank (packetIn l) && blank (trackerIn l))))))
+    → ((settingsGood (settingsIn l) && (inRange (packetIn l) && leb (place l P.count) maxWords))
+    && ((ihwGood (ihwIn l) && (tdhGood (tdhIn l) && (internalGood (internalIn l) && (cdwGood (cdwIn l) && frameGood (isOn (place l P.frames)) (frameIn l)))))
+    && (present (trackerIn l .fsm .state) (ihwIn l) (tdhIn l) && (isOn (place l P.accepted) || (packetBlank (packetIn l) && blank (trackerIn l))))))
     ≡ isGood (trackerIn l)
 grouped l = simp and-assoc
 

@@ -6,6 +6,7 @@ use mathlib.Core.Bool.{_&&_, _||_}
 use mathlib.Core.List.{List}
 use Prim.Native.Nat.{ℕ}
 use lib.Dec.{ltb, eqb}
+use Rattle.tracker_array.specs.Place as P
 use Rattle.tracker_array.specs.Read.{place, isOn, tdhIn, tdhGood}
 use Rattle.tracker_array.proofs.Kept.{three}
 use borrow.Author.Needs.{needs}
@@ -17,7 +18,7 @@ returns c =
     let c6 = c .before .before .before .before .before .before in
     let l = now (c6 .before .before .args .a) in
     simp (c .before .before .before .before .fits2 .ensures, c .before .before .fits3 .ensures, c .fits4 .ensures)
-    (three (isOn (place l 19)) (ltb (place l 20) 0x1000) (ltb (place l 21) 0x1000) (ltb (place l 22) 0x100000000) (eqb (place l 20) 0) (eqb (place l 21) 0) (eqb (place l 22) 0))
+    (three (isOn (place l P.tdh)) (ltb (place l P.tdhTrigger) 0x1000) (ltb (place l P.tdhBc) 0x1000) (ltb (place l P.tdhOrbit) 0x100000000) (eqb (place l P.tdhTrigger) 0) (eqb (place l P.tdhBc) 0) (eqb (place l P.tdhOrbit) 0))
 
 pub tdh-spec : {M : Type 1} → statement M
 tdh-spec =
