@@ -6,7 +6,7 @@
 
 use std::mem::size_of;
 
-pub const TRACKER_WORDS: usize = 32;
+pub const TRACKER_WORDS: usize = 48;
 pub const WORD_BYTES: usize = 10;
 pub const DATA_BYTES: usize = 9;
 pub const LANES: u64 = 28;

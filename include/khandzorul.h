@@ -41,9 +41,9 @@
 extern "C" {
 #endif
 
-#define KHZ_API 3                                /* the version of this boundary */
+#define KHZ_API 4                                /* the version of this boundary */
 
-#define KHZ_TRACKER_WORDS 32                     /* numbers in a tracker */
+#define KHZ_TRACKER_WORDS 48                     /* numbers in a tracker */
 #define KHZ_WORD_BYTES 10                        /* bytes in a word */
 #define KHZ_DATA_BYTES 9                         /* bytes of a data word before its id */
 #define KHZ_LANES 28                             /* lanes of a link, 0 to 27 */

@@ -206,13 +206,22 @@ static void lengths(void)
     expect(memcmp(before, t, sizeof t) == 0, "a call with a wrong length changed the tracker");
 }
 
-/* An array that another version of the boundary wrote is no tracker. */
+/* An array that another version of the boundary wrote is no tracker, by its length, by what stands behind the numbers that are used, and by its mark. */
 static void versions(void)
 {
+    const size_t length_3 = 32; /* numbers of a tracker up to KHZ_API 3 */
     uint64_t t[KHZ_TRACKER_WORDS], records[KHZ_RECORD_NUMBERS] = {0};
 
+    expect(khz_start(t, length_3, 1, 1, 1, 198, KHZ_RULE_1) == KHZ_NO_TRACKER, "khz_start takes an array of KHZ_API 3");
     expect(khz_start(t, KHZ_TRACKER_WORDS, 1, 1, 1, 198, KHZ_RULE_1) == KHZ_DONE, "khz_start is refused");
     expect((t[0] & 0xFF) == KHZ_API, "a tracker's mark does not carry KHZ_API");
+    expect(khz_reset(t, length_3) == KHZ_NO_TRACKER, "khz_reset takes a tracker of the length of KHZ_API 3");
+    for (size_t i = length_3; i < KHZ_TRACKER_WORDS; i++) {
+        expect(t[i] == 0, "khz_start leaves what stood at the end");
+        t[i] = 1;
+        expect(khz_reset(t, KHZ_TRACKER_WORDS) == KHZ_NO_TRACKER, "khz_reset takes a number that nothing stands for");
+        t[i] = 0;
+    }
     t[0] ^= KHZ_API ^ (KHZ_API - 1);
     expect(khz_packet(t, KHZ_TRACKER_WORDS, 0, 0, 0, 0, 0, 0, 2) == KHZ_NO_TRACKER, "khz_packet takes a tracker of an older version");
     expect(khz_word(t, KHZ_TRACKER_WORDS, whole_case, KHZ_WORD_BYTES, records, KHZ_RECORD_NUMBERS).refusal == KHZ_NO_TRACKER, "khz_word does");

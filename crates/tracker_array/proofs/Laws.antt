@@ -1,25 +1,25 @@
 -- Laws of the numbers: a tracker is read back from its numbers, and whatever is read is a tracker with just these numbers.
 -- Assumes nothing.
-use Prim.Native.Nat.{ℕ, _≤_, _<_, _^_}
+use Prim.Native.Nat.{ℕ, _-_, _≤_, _<_, _^_}
 use mathlib.Core.Path.{_≡_, refl, sym, ap, subst, _∙_}
-use mathlib.Core.Bool.{Bool, true, false, cond, _&&_}
-use mathlib.Core.List.{List}
+use mathlib.Core.Bool.{Bool, true, false, cond, _&&_, or-true}
+use mathlib.Core.List.{List, _++_}
 use mathlib.Core.Logic.{_↔_}
 use native.Mathlib.Omega.{arith}
-use lib.Dec.{eqb}
+use lib.Dec.{leb, eqb}
 use lib.ListN.{length, replicate}
-use borrow.Author.Tests.{eqb-true, eqb-false, le-leb, eq-eqb, ne-eqb}
-use Rattle.words.proofs.Tests.{both, and-is, tests}
+use borrow.Author.Tests.{leb-true, eqb-true, eqb-false, le-leb, eq-eqb, ne-eqb}
+use Rattle.words.proofs.Tests.{both, and-is, tests-agree, tests}
 use Rattle.packet.specs.declared.Rule.{Rule}
 use Rattle.packet.specs.declared.Rule.the-variants as R
 use Rattle.cdp_running.specs.declared.Tracker.{Tracker}
 use Rattle.cdp_running.specs.Tracker.{Good}
 use Rattle.tracker_array.specs.Array.{size, flag, ruleNumber, stateNumber, encodeOf}
 use Rattle.tracker_array.specs.Place as P
-use Rattle.tracker_array.specs.Read.{place, isOn, isFlag, isRule, ruleOf, trackerIn, inForm, Sized, isGood, isTracker, Is, Not, decodeOf}
+use Rattle.tracker_array.specs.Read.{place, isOn, isFlag, isRule, ruleOf, settingsIn, trackerIn, zerosFrom, inForm, Sized, settingsGood, isGood, isTracker, Is, Not, decodeOf}
 use Rattle.tracker_array.specs.Good.{InForm, Fits, GoodArray}
 use Rattle.tracker_array.proofs.State.{state-back, state-low, number-back}
-use Rattle.tracker_array.proofs.Stores.{numbersFrom, spelled}
+use Rattle.tracker_array.proofs.Stores.{numbersFrom, spelled, in-two, all-zero}
 use Rattle.tracker_array.proofs.Invariant.{tests-good, good-tests}
 
 flag-low : (b : Bool) → isFlag (flag b) ≡ true
@@ -52,26 +52,41 @@ number-rule n two = at (eqb n 1) refl
     at true p = let one = eqb-true n 1 p in rw one refl
     at false p = rw (two p) refl
 
--- A tracker's numbers pass three tests.
-tracker-is : (a : List ℕ) → (isTracker a ≡ true) ↔ ((length a ≡ size) × ((inForm a ≡ true) × (isGood (trackerIn a) ≡ true)))
+-- A tracker's numbers pass four tests.
+tracker-is : (a : List ℕ) → (isTracker a ≡ true) ↔ ((length a ≡ size) × ((inForm a ≡ true) × ((place a P.state ≤ 6) × (isGood (trackerIn a) ≡ true))))
 unfolding isTracker
-tracker-is a = (λ e. let (l, rest) = both (eqb (length a) size) _ e in (eqb-true _ _ l, both (inForm a) _ rest), λ (l, rest). and-is _ _ .1 (eq-eqb _ _ l, and-is _ _ .1 rest))
+tracker-is a = (
+  λ e.
+      let (l, rest) = both (eqb (length a) size) _ e in
+      let (form, more) = both (inForm a) _ rest in
+      let (low, good) = both (leb (place a P.state) 6) _ more in
+      (eqb-true _ _ l, (form, (leb-true _ _ low, good))),
+  λ (l, (form, (low, good))). and-is _ _ .1 (eq-eqb _ _ l, and-is _ _ .1 (form, and-is _ _ .1 (le-leb _ _ low, good))),
+)
 
 module _ (t : Tracker) where
   pub reads-back : trackerIn (encodeOf t) ≡ t
   unfolding encodeOf
   reads-back = simp (flag-back, rule-back, state-back)
 
+  zeros-back : zerosFrom (size - P.unused) P.unused (encodeOf t) ≡ true
+  unfolding encodeOf zerosFrom
+  zeros-back = refl
+
   form-back : inForm (encodeOf t) ≡ true
   unfolding encodeOf
-  form-back = simp (flag-low, rule-low, le-leb (stateNumber (t .fsm .state)) 6 (state-low (t .fsm .state)))
+  form-back = simp (flag-low, rule-low, zeros-back)
+
+  state-back-low : place (encodeOf t) P.state ≤ 6
+  unfolding encodeOf
+  state-back-low = state-low (t .fsm .state)
 
   long-back : length (encodeOf t) ≡ size
   unfolding encodeOf
   long-back = refl
 
   pub tracker-back : Good t → Sized t → isTracker (encodeOf t) ≡ true
-  tracker-back g s = tracker-is (encodeOf t) .1 (long-back, (form-back, ap isGood reads-back ∙ good-tests t g s))
+  tracker-back g s = tracker-is (encodeOf t) .1 (long-back, (form-back, (state-back-low, ap isGood reads-back ∙ good-tests t g s)))
 
   -- What was written is read again.
   pub decode-encode : Good t → Sized t → decodeOf (encodeOf t) ≡ Is t
@@ -86,18 +101,21 @@ encode-apart t u e = sym (reads-back t) ∙ ap trackerIn e ∙ reads-back u
 pub written : (a : List ℕ) → isTracker a ≡ true → a ≡ encodeOf (trackerIn a)
 unfolding numbersFrom encodeOf
 written a e =
-    let (long, (form, good)) = tracker-is a .0 e in
-    let (m, ((running, (frames, (periodic, (accepted, (seen, (ihw, (tdh, (internal, (cdw, live))))))))), (two, (low, (first, second))))) = simp tests at form in
-    sym (spelled size 0 a long) ∙ simp (m, number-flag, number-rule (place a P.rule) two, number-back, first, second)
+    let (long, (form, (low, good))) = tracker-is a .0 e in
+    let (m, ((running, (frames, (periodic, (accepted, (seen, (ihw, (tdh, (internal, (cdw, live))))))))), (two, zeros))) = simp tests at form in
+    sym (spelled size 0 a long)
+    ∙ in-two P.unused (size - P.unused) 0 a
+    ∙ ap (λ (l : List ℕ). numbersFrom P.unused 0 a ++ l) (all-zero (size - P.unused) P.unused a zeros)
+    ∙ simp (m, number-flag, number-rule (place a P.rule) two, number-back)
 
 -- What they are read as is a tracker that the start or a call can have given.
 pub tracker-good : (a : List ℕ) → isTracker a ≡ true → Good (trackerIn a) × Sized (trackerIn a)
-tracker-good a e = tests-good (trackerIn a) (tracker-is a .0 e .1 .1)
+tracker-good a e = tests-good (trackerIn a) (tracker-is a .0 e .1 .1 .1)
 
 -- They fit the widths that they are read with.
 pub tracker-fits : (a : List ℕ) → isTracker a ≡ true → Fits a
 tracker-fits a e =
-    let (long, (form, tested)) = tracker-is a .0 e in
+    let (long, (form, (low, tested))) = tracker-is a .0 e in
     let (good, sized) = tests-good (trackerIn a) tested in
     let (position, (orbit, (trigger, (bc, (page, (stop, two)))))) = simp tests at (good .packet) in
     let format = at (eqb (place a P.format) 0) refl two in
@@ -120,8 +138,31 @@ array-good a h = ap isTracker (h .own) ∙ tracker-back (trackerIn a) (h .good) 
 -- Numbers that passed the test of form.
 pub in-form : (a : List ℕ) → length a ≡ size → inForm a ≡ true → InForm a
 in-form a long e =
-    let (m, ((running, (frames, (periodic, (accepted, (seen, (ihw, (tdh, (internal, (cdw, live))))))))), (two, (low, (first, second))))) = simp tests at e in
-    record { long = long; periodic = periodic; ihw = ihw; tdh = tdh; internal = internal; cdw = cdw; live = live }
+    let (m, ((running, (frames, (periodic, (accepted, (seen, (ihw, (tdh, (internal, (cdw, live))))))))), (two, zeros))) = simp tests at e in
+    record { long = long; form = e; frames = frames; periodic = periodic; ihw = ihw; tdh = tdh; internal = internal; cdw = cdw; live = live }
+
+-- Where no packet was accepted, a tracker is one that the start gave: nothing stands in it but the settings.
+pub bare-good : (a : List ℕ) → InForm a → isOn (place a P.accepted) ≡ false
+    → (settingsGood (settingsIn a) && zerosFrom (P.unused - P.packet) P.packet a) ≡ (leb (place a P.state) 6 && isGood (trackerIn a))
+unfolding numbersFrom encodeOf zerosFrom
+bare-good a f off = tests-agree _ _ there back
+  where
+    there : (settingsGood (settingsIn a) && zerosFrom (P.unused - P.packet) P.packet a) ≡ true → (leb (place a P.state) 6 && isGood (trackerIn a)) ≡ true
+    there e =
+        let (set, zeros) = both (settingsGood (settingsIn a)) _ e in
+        let same : a ≡ numbersFrom P.packet 0 a ++ (replicate (P.unused - P.packet) 0 ++ numbersFrom (size - P.unused) P.unused a) =
+        sym (spelled size 0 a (f .long)) ∙ in-two P.packet (size - P.packet) 0 a
+        ∙ ap (λ (l : List ℕ). numbersFrom P.packet 0 a ++ l)
+        (in-two (P.unused - P.packet) (size - P.unused) P.packet a
+        ∙ ap (λ (l : List ℕ). l ++ numbersFrom (size - P.unused) P.unused a) (all-zero (P.unused - P.packet) P.packet a zeros)) in
+        ap (λ (l : List ℕ). leb (place l P.state) 6 && isGood (trackerIn l)) same ∙ simp (set, off, or-true)
+
+    back : (leb (place a P.state) 6 && isGood (trackerIn a)) ≡ true → (settingsGood (settingsIn a) && zerosFrom (P.unused - P.packet) P.packet a) ≡ true
+    back e =
+        let (low, good) = both (leb (place a P.state) 6) _ e in
+        let own = written a (tracker-is a .1 (f .long, (f .form, (leb-true _ _ low, good)))) in
+        let bare = tests-good (trackerIn a) good .0 .fresh off in
+        and-is _ _ .1 (both (settingsGood (settingsIn a)) _ good .0, ap (zerosFrom (P.unused - P.packet) P.packet) (own ∙ ap encodeOf bare))
 
 module _ (a : List ℕ) (t : Tracker) (e : decodeOf a ≡ Is t) where
   decoded : (isTracker a ≡ true) × (trackerIn a ≡ t)
@@ -134,7 +175,7 @@ module _ (a : List ℕ) (t : Tracker) (e : decodeOf a ≡ Is t) where
 
   -- What was read is a tracker that the start or a call can have given, and the numbers are its own.
   pub decoded-good : Good t × Sized t
-  decoded-good = subst (λ (u : Tracker). Good u × Sized u) (decoded .1) (tests-good (trackerIn a) (tracker-is a .0 (decoded .0) .1 .1))
+  decoded-good = subst (λ (u : Tracker). Good u × Sized u) (decoded .1) (tests-good (trackerIn a) (tracker-is a .0 (decoded .0) .1 .1 .1))
 
   pub decoded-encodes : a ≡ encodeOf t
   decoded-encodes = written a (decoded .0) ∙ ap encodeOf (decoded .1)
@@ -153,7 +194,7 @@ another-length a h = simp (ne-eqb _ _ h)
 
 -- What the code tests, one half after the other, and what it gives.
 module _ (a : List ℕ) where
-  pub tested : {f g : Bool} → length a ≡ size → f ≡ inForm a → g ≡ isGood (trackerIn a) → isTracker a ≡ (f && g)
+  pub tested : {f g : Bool} → length a ≡ size → f ≡ inForm a → g ≡ (leb (place a P.state) 6 && isGood (trackerIn a)) → isTracker a ≡ (f && g)
   unfolding isTracker
   tested l p q = simp (eq-eqb _ _ l, p, q)
 

@@ -48,14 +48,6 @@ module _ (n : ℕ) where
       at false true = refl
       at false false = refl
 
-  pub in-start : eqb n 0 ≡ inStart (stateOf n)
-  in-start = at (eqb n 0) (eqb n 1) ∙ sym (split inStart false refl refl refl refl refl)
-    where
-      at : (a b : Bool) → a ≡ cond a true (cond b false false)
-      at true b = refl
-      at false true = refl
-      at false false = refl
-
 -- A state's number says which it is, and each number up to 6 is one's.
 pub state-back : (s : State) → stateOf (stateNumber s) ≡ s
 state-back S.Ihw = refl

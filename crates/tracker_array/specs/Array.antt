@@ -1,10 +1,10 @@
--- A tracker as 32 numbers, for callers who own its memory: which number stands where. The rest of the places are 0.
+-- A tracker as 48 numbers, for callers who own its memory: which number stands where. The rest of the places are 0.
 -- Assumes nothing.
-use Prim.Native.Nat.{ℕ}
+use Prim.Native.Nat.{ℕ, _-_}
 use mathlib.Core.Bool.{Bool, true, false, cond}
 use mathlib.Core.List.{List, [], _∷_, _++_}
 use lib.Dec.{eqb}
-use lib.ListN.{length}
+use lib.ListN.{length, replicate}
 use Rattle.packet.specs.declared.Rule.{Rule}
 use Rattle.packet.specs.declared.Rule.the-variants as R
 use Rattle.packet.specs.declared.Settings.{Settings}
@@ -19,12 +19,12 @@ use Rattle.stored.specs.declared.Frame.{Frame}
 use Rattle.cdp_running.specs.declared.Tracker.{Tracker}
 
 abbrev pub size : ℕ
-size = 32
+size = 48
 
 -- The first number of every tracker, so that zeros are none: the letters KHZ and the version of the boundary, KHZ_API of include/khandzorul.h, so that an
 -- array of another version is none either.
 abbrev pub mark : ℕ
-mark = 0x4B485A03
+mark = 0x4B485A04
 
 abbrev pub flag : Bool → ℕ
 flag false = 0
@@ -71,16 +71,21 @@ firstNumbers settings accepted packet state count seen =
     ++ (settingsNumbers settings
     ++ ((flag accepted ∷ []) ++ (packetNumbers packet ++ (stateNumber state ∷ count ∷ flag seen ∷ []))))
 
--- What is stored, and nothing after it.
+-- What is stored.
 abbrev pub storedNumbers : StoredIhw → StoredTdh → InternalTdh → StoredCdw → Frame → List ℕ
 storedNumbers ihw tdh internal cdw frame =
     ihwNumbers ihw
-    ++ (tdhNumbers tdh ++ (internalNumbers internal ++ (cdwNumbers cdw ++ (frameNumbers frame ++ (0 ∷ 0 ∷ [])))))
+    ++ (tdhNumbers tdh ++ (internalNumbers internal ++ (cdwNumbers cdw ++ frameNumbers frame)))
+
+-- Numbers, and 0 at the places after them.
+abbrev pub filled : List ℕ → List ℕ
+filled numbers = numbers ++ replicate (size - length numbers) 0
 
 unfoldable pub encodeOf : Tracker → List ℕ
 encodeOf t =
-    firstNumbers (t .settings) (t .accepted) (t .packet) (t .fsm .state) (t .count) (t .seen)
-    ++ storedNumbers (t .ihw) (t .tdh) (t .internal) (t .cdw) (t .frame)
+    filled
+    (firstNumbers (t .settings) (t .accepted) (t .packet) (t .fsm .state) (t .count) (t .seen)
+    ++ storedNumbers (t .ihw) (t .tdh) (t .internal) (t .cdw) (t .frame))
 
 -- What an array holds after a tracker was written to it; one of another length stays as it was.
 abbrev pub writtenTo : List ℕ → Tracker → List ℕ

@@ -2,16 +2,19 @@
 -- Assumes nothing.
 use Prim.Native.Nat.{ℕ, _≤_, _<_, _^_}
 use mathlib.Core.Path.{_≡_}
+use mathlib.Core.Bool.{true}
 use mathlib.Core.List.{List}
 use lib.ListN.{length}
 use Rattle.cdp_running.specs.Tracker.{Good}
 use Rattle.tracker_array.specs.Array.{size, encodeOf}
 use Rattle.tracker_array.specs.Place as P
-use Rattle.tracker_array.specs.Read.{place, trackerIn, Sized}
+use Rattle.tracker_array.specs.Read.{place, trackerIn, inForm, Sized}
 
 -- Numbers that have a tracker's form: the flags that other numbers hang on are 0 or 1.
 pub record InForm (a : List ℕ) : Type 0 where
   pub long : length a ≡ size
+  pub form : inForm a ≡ true
+  pub frames : place a P.frames ≤ 1
   pub periodic : place a P.periodic ≤ 1
   pub ihw : place a P.ihw ≤ 1
   pub tdh : place a P.tdh ≤ 1

@@ -1,6 +1,6 @@
 -- Which numbers are a tracker, and which one: those that the start and the calls can have written, and no others.
 -- Assumes nothing.
-use Prim.Native.Nat.{ℕ, _+_, _<_, _^_}
+use Prim.Native.Nat.{ℕ, zero, suc, _-_, _<_, _^_}
 use mathlib.Core.Bool.{Bool, true, false, cond, not, _&&_, _||_}
 use mathlib.Core.List.{List}
 use lib.Dec.{leb, ltb, eqb}
@@ -98,7 +98,7 @@ trackerIn a =
       frame = frameIn a;
     }
 
--- The form: the mark, flags that are 0 or 1, one of the two rules, one of the seven states, and 0 where nothing stands.
+-- The form: the mark, flags that are 0 or 1, one of the two rules, and 0 where nothing stands.
 abbrev pub flagsFit : List ℕ → Bool
 flagsFit a =
     isFlag (place a P.running)
@@ -109,11 +109,13 @@ flagsFit a =
     && (isFlag (place a P.ihw)
     && (isFlag (place a P.tdh) && (isFlag (place a P.internal) && (isFlag (place a P.cdw) && isFlag (place a P.live)))))))))
 
-abbrev pub unused : List ℕ → Bool
-unused a = eqb (place a P.unused) 0 && eqb (place a (P.unused + 1)) 0
+-- So many numbers from a place on are 0.
+unfoldable pub zerosFrom : ℕ → ℕ → List ℕ → Bool
+zerosFrom zero i a = true
+zerosFrom (suc n) i a = eqb (place a i) 0 && zerosFrom n (suc i) a
 
 abbrev pub inForm : List ℕ → Bool
-inForm a = eqb (place a P.mark) mark && (flagsFit a && (isRule (place a P.rule) && (leb (place a P.state) 6 && unused a)))
+inForm a = eqb (place a P.mark) mark && (flagsFit a && (isRule (place a P.rule) && zerosFrom (size - P.unused) P.unused a))
 
 -- What fits the widths of its types and the invariant does not speak of.
 pub record Sized (t : Tracker) : Type 0 where
@@ -184,8 +186,9 @@ isGood t =
     && (frameGood (t .settings .frames) (t .frame)
     && (present (t .fsm .state) (t .ihw) (t .tdh) && (t .accepted || (packetBlank (t .packet) && blank t))))))))))
 
+-- The length, the form, one of the seven states, and the invariant.
 unfoldable pub isTracker : List ℕ → Bool
-isTracker a = eqb (length a) size && (inForm a && isGood (trackerIn a))
+isTracker a = eqb (length a) size && (inForm a && (leb (place a P.state) 6 && isGood (trackerIn a)))
 
 -- What numbers are: a tracker, or none.
 pub data Decoded : Type 0 where

@@ -1,4 +1,4 @@
-// A tracker as 32 numbers, for callers who own its memory: which numbers are one, what its parts are, and writing one.
+// A tracker as 48 numbers, for callers who own its memory: which numbers are one, what its parts are, and writing one.
 ghost use mathlib.Core.Path.{_≡_};
 ghost use Rattle.tracker_array.specs.Array.{writtenTo};
 ghost use Rattle.tracker_array.specs.Read.{isTracker};
@@ -13,10 +13,10 @@ mod write;
 use cdp_running::Tracker;
 
 // Numbers in a tracker.
-pub const SIZE: usize = 32;
+pub const SIZE: usize = 48;
 
 // The first number of every tracker; its last byte is the version of the boundary.
-pub const MARK: u64 = 0x4B48_5A03;
+pub const MARK: u64 = 0x4B48_5A04;
 
 // Whether numbers are a tracker.
 pub fn is_tracker(a: &[u64]) -> bool
@@ -31,7 +31,8 @@ pub fn is_tracker(a: &[u64]) -> bool
     test::is_good(a)
 }
 
-// A tracker's numbers, whatever stood there. An array of another length stays as it was.
+// A tracker's numbers, whatever stood there. An array of another length stays as it was. The unused numbers are written first: after the others they would
+// make one long run of zeros with those of a start, for which the compiler calls memset, and a library without the C library has none.
 pub fn encode(t: Tracker, a: &mut [u64])
     ensures { λ _. ⌜ now (a .exit) ≡ writtenTo (now (a .entry)) t ⌝ }
 {
@@ -40,6 +41,7 @@ pub fn encode(t: Tracker, a: &mut [u64])
     }
     let fsm = t.fsm;
     let state = fsm.state;
+    write::rest(a);
     write::first(t.settings, t.accepted, t.packet, state, t.count, t.seen, a);
     write::stored(t.ihw, t.tdh, t.internal, t.cdw, t.frame, a);
 }

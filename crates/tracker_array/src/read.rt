@@ -1,4 +1,4 @@
-// The parts of the tracker that 32 numbers are.
+// The parts of the tracker that 48 numbers are.
 ghost use mathlib.Core.Path.{_≡_};
 ghost use Rattle.tracker_array.specs.Read.{settingsIn, packetIn, ihwIn, tdhIn, internalIn, cdwIn, frameIn};
 ghost use Rattle.tracker_array.specs.Good.{GoodArray};

@@ -1,16 +1,16 @@
-// Whether 32 numbers are a tracker, part by part, on the numbers themselves. Tests end at the first part that fails, which is faster than all of them.
+// Whether 48 numbers are a tracker, part by part, on the numbers themselves. Tests end at the first part that fails, which is faster than all of them.
 ghost use mathlib.Core.Path.{_≡_};
 ghost use mathlib.Core.Bool.{_&&_, _||_};
-ghost use Prim.Native.Nat.{_+_, _≤_};
+ghost use Prim.Native.Nat.{_+_, _-_, _≤_};
 ghost use lib.Dec.{leb, ltb, eqb};
 ghost use lib.ListN.{length};
 ghost use Rattle.packet.specs.Packet.{inRange, maxWords};
-ghost use Rattle.cdp_running.specs.Tracker.{pastIhw, pastTdh};
 ghost use Rattle.tracker_array.specs.Array.{size};
 ghost use Rattle.tracker_array.specs.Place as P;
-ghost use Rattle.tracker_array.specs.Read.{place, isOn, stateOf, settingsIn, packetIn, ihwIn, tdhIn, internalIn, cdwIn, frameIn, trackerIn, flagsFit, unused, inForm, settingsGood, ihwGood, tdhGood, internalGood, cdwGood, frameGood, present, packetBlank, inStart, blank, isGood};
+ghost use Rattle.tracker_array.specs.Read.{place, isOn, settingsIn, packetIn, ihwIn, tdhIn, internalIn, cdwIn, frameIn, trackerIn, flagsFit, zerosFrom, inForm, settingsGood, ihwGood, tdhGood, internalGood, cdwGood, frameGood, present, isGood};
 ghost use Rattle.tracker_array.specs.Good.{InForm};
 use crate::MARK;
+use crate::SIZE;
 use crate::place;
 use crate::rules;
 
@@ -32,20 +32,27 @@ fn flags_fit(a: &[u64]) -> bool
                                     & ((a[place::CDW] <= 1) & (a[place::LIVE] <= 1)))))))))
 }
 
-fn unused(a: &[u64]) -> bool
-    requires { ⌜ length (now a) ≡ size ⌝ }
-    ensures { λ r. ⌜ r ≡ unused (now (a .entry)) ⌝ }
+// Whether the numbers from a place on are 0, up to another. It asks all of them, which is faster than ending at the first that is not.
+fn zeros(a: &[u64], from: usize, to: usize) -> bool
+    requires { ⌜ (from ≤ to) × (to ≤ length (now a)) ⌝ }
+    ensures { λ r. ⌜ r ≡ zerosFrom (to - from) from (now (a .entry)) ⌝ }
 {
-    (a[place::UNUSED] == 0) & (a[place::UNUSED + 1] == 0)
+    let mut all = true;
+    let mut i = from;
+    while i < to {
+        all = all & (a[i] == 0);
+        i = i + 1;
+    }
+    all
 }
 
-// The mark, flags, a rule, a state, and nothing where nothing stands.
+// The mark, flags, a rule, and nothing where nothing stands.
 pub(crate) fn in_form(a: &[u64]) -> bool
     requires { ⌜ length (now a) ≡ size ⌝ }
     ensures { λ r. ⌜ r ≡ inForm (now (a .entry)) ⌝ }
 {
     (a[place::MARK] == MARK)
-        & (flags_fit(a) & (rules::is_rule(a[place::RULE]) & ((a[place::STATE] <= 6) & unused(a))))
+        & (flags_fit(a) & (rules::is_rule(a[place::RULE]) & zeros(a, place::UNUSED, SIZE)))
 }
 
 // Whether a number fits where its flag is on, and is 0 where it is off, by one comparison.
@@ -114,7 +121,7 @@ fn frame(a: &[u64]) -> bool
     ensures { λ r. ⌜ r ≡ frameGood (settingsIn (now (a .entry)) .frames) (frameIn (now (a .entry))) ⌝ }
 {
     let live = a[place::LIVE];
-    fits(live, MOST_POSITION, a[place::START]) & ((a[place::FRAMES] == 1) | !(live == 1))
+    fits(live, MOST_POSITION, a[place::START]) & (live <= a[place::FRAMES])
 }
 
 // What came in: settings, packet and count.
@@ -151,84 +158,36 @@ fn stored_good(a: &[u64]) -> bool
     frame(a)
 }
 
-// The states outside the start state, and those after a TDH.
-fn past_ihw(state: u64) -> bool
-    ensures { λ r. ⌜ r ≡ pastIhw (stateOf state) ⌝ }
-{
-    state != 0
-}
-
-fn past_tdh(state: u64) -> bool
-    ensures { λ r. ⌜ r ≡ pastTdh (stateOf state) ⌝ }
-{
-    (state != 0) & (state != 1)
-}
-
-fn in_start(state: u64) -> bool
-    ensures { λ r. ⌜ r ≡ inStart (stateOf state) ⌝ }
-{
-    state == 0
-}
-
-// An IHW is stored outside the start state, and a TDH wherever a previous one is read.
+// The state is one of the seven: 0 where no IHW is stored, and 0 or 1 where no TDH is.
 fn present(a: &[u64]) -> bool
     requires { ⌜ InForm (now a) ⌝ }
-    ensures { λ r. ⌜ r ≡ present (trackerIn (now (a .entry)) .fsm .state) (ihwIn (now (a .entry))) (tdhIn (now (a .entry))) ⌝ }
+    ensures { λ r. ⌜ r ≡ (leb (place (now (a .entry)) P.state) 6 && present (trackerIn (now (a .entry)) .fsm .state) (ihwIn (now (a .entry))) (tdhIn (now (a .entry)))) ⌝ }
 {
     let state = a[place::STATE];
-    (!past_ihw(state) | (a[place::IHW] == 1)) & (!past_tdh(state) | (a[place::TDH] == 1))
+    fits(a[place::IHW], 6, state) & (state <= 1 + 5 * a[place::TDH])
 }
 
-fn packet_blank(a: &[u64]) -> bool
+// As the start gave it: nothing but the settings.
+fn bare(a: &[u64]) -> bool
     requires { ⌜ InForm (now a) ⌝ }
-    ensures { λ r. ⌜ r ≡ packetBlank (packetIn (now (a .entry))) ⌝ }
+    ensures { λ r. ⌜ r ≡ (settingsGood (settingsIn (now (a .entry))) && zerosFrom (P.unused - P.packet) P.packet (now (a .entry))) ⌝ }
 {
-    (a[place::POSITION] == 0)
-        & ((a[place::ORBIT] == 0)
-            & ((a[place::TRIGGER] == 0)
-                & ((a[place::BC] == 0)
-                    & ((a[place::PAGE] == 0) & ((a[place::STOP] == 0) & (a[place::FORMAT] == 0))))))
+    settings(a) & zeros(a, place::POSITION, place::UNUSED)
 }
 
-// As the start gave it, but for the settings and the packet.
-fn blank(a: &[u64]) -> bool
-    requires { ⌜ InForm (now a) ⌝ }
-    ensures { λ r. ⌜ r ≡ blank (trackerIn (now (a .entry))) ⌝ }
-{
-    let start = in_start(a[place::STATE]);
-    start
-        & ((a[place::COUNT] == 0)
-            & (!(a[place::SEEN] == 1)
-                & (!(a[place::IHW] == 1)
-                    & (!(a[place::TDH] == 1)
-                        & (!(a[place::INTERNAL] == 1)
-                            & (!(a[place::CDW] == 1) & !(a[place::LIVE] == 1)))))))
-}
-
-// With a packet, or as the start gave it.
-fn begun(a: &[u64]) -> bool
-    requires { ⌜ InForm (now a) ⌝ }
-    ensures { λ r. ⌜ r ≡ (isOn (place (now (a .entry)) P.accepted) || (packetBlank (packetIn (now (a .entry))) && blank (trackerIn (now (a .entry))))) ⌝ }
-{
-    if a[place::ACCEPTED] == 1 {
-        return true;
-    }
-    packet_blank(a) & blank(a)
-}
-
-// The invariant.
+// One of the seven states, and the invariant: with a packet, or as the start gave it.
 pub(crate) fn is_good(a: &[u64]) -> bool
     requires { ⌜ InForm (now a) ⌝ }
-    ensures { λ r. ⌜ r ≡ isGood (trackerIn (now (a .entry))) ⌝ }
+    ensures { λ r. ⌜ r ≡ (leb (place (now (a .entry)) P.state) 6 && isGood (trackerIn (now (a .entry)))) ⌝ }
 {
+    if a[place::ACCEPTED] != 1 {
+        return bare(a);
+    }
     if !came_good(a) {
         return false;
     }
     if !stored_good(a) {
         return false;
     }
-    if !present(a) {
-        return false;
-    }
-    begun(a)
+    present(a)
 }

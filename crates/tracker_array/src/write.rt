@@ -1,12 +1,13 @@
 // A tracker written as numbers, each part to its own places.
 ghost use mathlib.Core.Path.{_≡_};
-ghost use Prim.Native.Nat.{_+_, _≤_};
+ghost use Prim.Native.Nat.{_+_, _-_, _≤_};
 ghost use mathlib.Core.List.{[], _∷_};
-ghost use lib.ListN.{length};
+ghost use lib.ListN.{length, replicate};
 ghost use lib.Seq.{sets};
 ghost use Rattle.tracker_array.specs.Array.{size, mark, flag, stateNumber, settingsNumbers, packetNumbers, tdhNumbers, internalNumbers, firstNumbers, storedNumbers};
 ghost use Rattle.tracker_array.specs.Place as P;
 use crate::MARK;
+use crate::SIZE;
 use crate::place;
 use crate::rules;
 use crate::states;
@@ -102,12 +103,16 @@ fn reached(state: State, count: u16, seen: bool, a: &mut [u64])
     a[place::SEEN] = flag(seen);
 }
 
-fn rest(a: &mut [u64])
+// Nothing where nothing stands.
+pub(crate) fn rest(a: &mut [u64])
     requires { ⌜ length (now a) ≡ size ⌝ }
-    ensures { λ _. ⌜ now (a .exit) ≡ sets (now (a .entry)) P.unused (0 ∷ 0 ∷ []) ⌝ }
+    ensures { λ _. ⌜ now (a .exit) ≡ sets (now (a .entry)) P.unused (replicate (size - P.unused) 0) ⌝ }
 {
-    a[place::UNUSED] = 0;
-    a[place::UNUSED + 1] = 0;
+    let mut i = place::UNUSED;
+    while i < SIZE {
+        a[i] = 0;
+        i = i + 1;
+    }
 }
 
 pub(crate) fn first(
@@ -145,5 +150,4 @@ pub(crate) fn stored(
     internal(i, a);
     held(cdw.stored, cdw.user, place::CDW, a);
     held(frame.live, frame.start, place::LIVE, a);
-    rest(a);
 }

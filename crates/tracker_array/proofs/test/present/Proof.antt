@@ -1,11 +1,17 @@
--- `present` meets its contract.
+-- `present` meets its contract: the state beside the two flags.
 -- Assumes nothing.
+use denote.Ref.{now}
+use Rattle.tracker_array.specs.Place as P
+use Rattle.tracker_array.specs.Read.{place}
+use Rattle.tracker_array.proofs.Kept.{state-fits}
 use borrow.Author.Needs.{needs}
 use Rattle.tracker_array.proofs.test.present.Statement.{statement}
 use Rattle.tracker_array.proofs.test.present.Tie as tie
 
 returns : tie.Need-returns
-returns c = simp (c .before .before .before .past-ihw .ensures, c .before .past-tdh .ensures)
+returns c =
+    let l = now (c .before .before .before .before .before .args .a) in
+    simp (c .before .fits2 .ensures) (state-fits (place l P.state) (place l P.ihw) (place l P.tdh) (c .before .before .before .before .before .pre .tdh))
 
 pub present-spec : {M : Type 1} → statement M
-present-spec = tie.close (tie.spec (λ c. search needs) (λ c. search needs) (λ c. search needs) (λ c. search needs) (λ c. search needs) returns)
+present-spec = tie.close (tie.spec (λ c. search needs) (λ c. search needs) (λ c. search needs) (λ c. search needs) (λ c. search needs) (λ c. search needs) returns)

@@ -9,10 +9,10 @@ returns c =
     let c6 = c .before .before .before .before .before .before in
     let c12 = c6 .before .before .before .before .before .before in
     let c18 = c12 .before .before .before .before .before .before in
-    simp (c .before .before .rest .ensures, c6 .held3 .ensures, c6 .before .before .before .before .held2 .ensures, c12 .before .before .internal .ensures, c18 .tdh .ensures, c18 .before .before .before .before .held .ensures)
+    simp (c .before .before .held3 .ensures, c6 .held2 .ensures, c6 .before .before .before .before .internal .ensures, c12 .before .before .tdh .ensures, c18 .held .ensures)
 
 pub stored-spec : {M : Type 1} → statement M
 stored-spec =
     tie.close
     (tie.spec (λ c. search needs) (λ c. search needs) (λ c. search needs) (λ c. search needs) (λ c. search needs) (λ c. search needs)
-    (λ c. search needs) (λ c. search needs) returns)
+    (λ c. search needs) returns)
