@@ -2,8 +2,6 @@
 -- Assumes nothing.
 use borrow.Author.Needs.{needs}
 use denote.Ref.{now}
-use mathlib.Core.Path.{sym, ap, _∙_}
-use Rattle.records.specs.Records.{padded}
 use Rattle.cdp_running.proofs.DataKinds.{data-rows}
 use Rattle.tracker_array.specs.Read.{trackerIn}
 use Rattle.in_place.proofs.rows.rows.Statement.{statement}
@@ -28,9 +26,10 @@ returns-5 c = simp (c .before .before .before .enum-told5 .given .1, c .check-co
 
 returns-6 : tie.Need-returns-6
 returns-6 c =
-    let s = c .before .before .before .before .before .before .args in
-    c .check .ensures ∙ simp (c .before .before .before .before .settings5 .ensures, c .before .cdw .ensures)
-    ∙ ap padded (sym (data-rows (s .taken .word) (s .taken .guessed) (trackerIn (now (s .a))) (s .word) (c .before .before .before .before .before .match .keys6)))
+    let c5 = c .before .before .before .before .before in
+    let s = c5 .before .before .args in
+    let rows = data-rows (s .taken .word) (s .taken .guessed) (trackerIn (now (s .a))) (s .word) (c5 .match .keys6) in
+    simp (rows, c .check .ensures, c .before .before .before .before .settings5 .ensures, c .before .cdw .ensures)
 
 returns-7 : tie.Need-returns-7
 returns-7 c = simp (c .before .before .before .enum-told6 .given .1, c .check2 .ensures, c .before .before .settings6 .ensures)
@@ -47,4 +46,4 @@ rows-spec =
     (λ c. search needs) (λ c. search needs) (λ c. search needs) (λ c. search needs) (λ c. search needs) (λ c. search needs) (λ c. search needs)
     (λ c. search needs) (λ c. search needs) (λ c. search needs) (λ c. search needs) (λ c. search needs) (λ c. search needs) (λ c. search needs)
     (λ c. search needs) (λ c. search needs) (λ c. search needs) (λ c. search needs) (λ c. search needs) (λ c. search needs) (λ c. search needs)
-    (λ c. search needs) returns returns-2 returns-3 returns-4 returns-5 returns-6 returns-7 returns-8)
+    returns returns-2 returns-3 returns-4 returns-5 returns-6 returns-7 returns-8)
