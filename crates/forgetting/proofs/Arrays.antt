@@ -12,9 +12,7 @@ use Rattle.cdp_running.specs.Word as Word
 use Rattle.cdp_running.specs.Word.{Outcome, taken, refused, wordCall}
 use Rattle.payload.specs.Payload.{Run, total, payloadCall, payloadCalls}
 use Rattle.payload.proofs.Words.{payload-total}
-use Rattle.tracker_array.specs.Array.{encodeOf}
-use Rattle.tracker_array.specs.Read.{Is, decodeOf}
-use Rattle.tracker_array.proofs.Laws.{decoded-good, decoded-encodes}
+use Rattle.tracker_array.specs.Array.{encodeOf, IsTracker}
 use Rattle.khandzorul.specs.Answer.{toldNumbers}
 use Rattle.khandzorul.specs.Calls.{PacketOn, ResetOn, WordOn, PayloadOn}
 use Rattle.khandzorul.proofs.Laws.{packet-holds, reset-holds, word-holds, payload-holds}
@@ -38,26 +36,26 @@ showing (x ∷ xs) = shown x ∷ showing xs
 
 -- A call on the numbers of a tracker: they are those of the tracker that it leaves, and its answer is seen.
 record Step (t : Tracker) (c : Call) (s : Seen) (b : List ℕ) : Type 0 where
-  pub holds : decodeOf b ≡ Is (after t c)
+  pub holds : IsTracker b (after t c)
   pub sees : s ≡ shown (answer t c)
 
-step : (a b : List ℕ) (t : Tracker) (c : Call) (s : Seen) → decodeOf a ≡ Is t → Did a c s b → Step t c s b
-step a b t _ _ e (khz-packet {p = p} w) = record { holds = packet-holds a t e p w; sees = ap Show.packet (rw e at (w .answer)) }
+step : (a b : List ℕ) (t : Tracker) (c : Call) (s : Seen) → IsTracker a t → Did a c s b → Step t c s b
+step a b t _ _ e (khz-packet {p = p} w) = record { holds = packet-holds a t e p w; sees = ap Show.packet (w .answer .is t e) }
 step a b t _ _ e (khz-word {bytes = bytes} {buffer = buffer} w) =
-    let r = rw e at (w .answer) in
-    let l = rw e at (w .buffer-is) in
+    let r = w .answer .is t e in
+    let l = w .buffer-is .is t e in
     record { holds = word-holds a t e bytes buffer w; sees = λ i. Show.word (r i) (l i) }
 step a b t _ _ e (khz-payload {bytes = bytes} {buffer = buffer} w) =
-    let r = rw e at (w .answer) in
-    let l = rw e at (w .buffer-is) in
+    let r = w .answer .is t e in
+    let l = w .buffer-is .is t e in
     record { holds = payload-holds a t e bytes buffer w; sees = λ i. Show.payload (r i) (l i) }
-step a b t _ _ e (khz-reset w) = record { holds = reset-holds a t e w; sees = ap Show.reset (rw e at (w .answer)) }
+step a b t _ _ e (khz-reset w) = record { holds = reset-holds a t e w; sees = ap Show.reset (w .answer .is t e) }
 
 record Steps (t : Tracker) (calls : List Call) (seen : List Seen) (b : List ℕ) : Type 0 where
-  pub holds : decodeOf b ≡ Is (run t calls)
+  pub holds : IsTracker b (run t calls)
   pub sees : seen ≡ showing (answers t calls)
 
-steps : {a b : List ℕ} {t : Tracker} {calls : List Call} {seen : List Seen} → decodeOf a ≡ Is t → Ran a calls seen b → Steps t calls seen b
+steps : {a b : List ℕ} {t : Tracker} {calls : List Call} {seen : List Seen} → IsTracker a t → Ran a calls seen b → Steps t calls seen b
 unfolding run answers showing
 steps e none = record { holds = e; sees = refl }
 steps {a} {b} {t} e (then {b = m} {c = c} {s = s} d rest) =
@@ -126,7 +124,7 @@ calls-kinds t (c ∷ calls) = let one = call-kinds t c in let more = calls-kinds
 
 -- Two arrays that are trackers with equal settings; each accepts a marker; then equal calls, with room, that begin with an accepted packet.
 pub forgetting-on-arrays : {a a′ b b′ m m′ z z′ : List ℕ} (t u : Tracker) (past past′ calls later : List Call) {sp sp′ sc sc′ sl sl′ : List Seen}
-    → decodeOf a ≡ Is t → decodeOf a′ ≡ Is u → t .settings ≡ u .settings → AcceptedMarker t past → AcceptedMarker u past′
+    → IsTracker a t → IsTracker a′ u → t .settings ≡ u .settings → AcceptedMarker t past → AcceptedMarker u past′
     → Begins (calls ++ later) → Each Roomy (calls ++ later)
     → Ran a past sp b → Ran a′ past′ sp′ b′ → Ran b calls sc m → Ran b′ calls sc′ m′ → Ran m later sl z → Ran m′ later sl′ z′
     → ForgottenOnArrays (HasMet (took (run t past) calls)) sc sc′ sl sl′ z z′
@@ -139,13 +137,13 @@ forgetting-on-arrays {a} {a′} {b} {b′} {m} {m′} {z} {z′} t u past past�
     let three′ = steps (two′ .holds) r′ in
     let all = steps (one .holds) (ran-on q r) in
     let all′ = steps (one′ .holds) (ran-on q′ r′) in
-    let f = forgetting t u past past′ calls later (decoded-good a t e .0) (decoded-good a′ u e′ .0) set mt mu begins room in
+    let f = forgetting t u past past′ calls later (e .good) (e′ .good) set mt mu begins room in
     record {
       kinds-agree =
           ap allKinds (all .sees) ∙ calls-kinds (run t past) (calls ++ later) ∙ ap (ofCalls (calls ++ later)) (f .kinds-agree)
           ∙ sym (calls-kinds (run u past′) (calls ++ later)) ∙ sym (ap allKinds (all′ .sees));
       numbers-agree =
-          λ met. decoded-encodes z (run (run (run t past) calls) later) (three .holds) ∙ ap (λ (x : Tracker). encodeOf (run x later)) (f .trackers-agree met)
-          ∙ sym (decoded-encodes z′ (run (run (run u past′) calls) later) (three′ .holds));
+          λ met. three .holds .numbers ∙ ap (λ (x : Tracker). encodeOf (run x later)) (f .trackers-agree met)
+          ∙ sym (three′ .holds .numbers);
       seen-agree = λ met. three .sees ∙ ap showing (f .answers-agree met) ∙ sym (three′ .sees);
     }

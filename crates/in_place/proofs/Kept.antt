@@ -28,8 +28,7 @@ use Rattle.cdp_running.proofs.Good.{good-start, good-reset, good-accept, good-n
 use Rattle.cdp_running.proofs.Outcome.{taken-admitted, next-is}
 use Rattle.payload.specs.Payload.{Run, wordsFrom, payloadCall}
 use Rattle.payload.proofs.Run.{step-taken, step-refused}
-use Rattle.tracker_array.specs.Array.{encodeOf}
-use Rattle.tracker_array.specs.Read.{Sized}
+use Rattle.tracker_array.specs.Array.{encodeOf, Sized}
 use Rattle.tracker_array.specs.Good.{GoodArray}
 use Rattle.tracker_array.proofs.Laws.{good-again}
 

@@ -34,9 +34,9 @@ use Rattle.cdp_running.specs.Tracker.{Good}
 use Rattle.cdp_running.specs.Next.{nextOf}
 use Rattle.cdp_running.specs.Word.{Outcome, taken, refused, takenAs, positionNow, rowsAs, rowsOf, recordsOf, takenAnswer, wordCall, answerOf, recordsIn, WordPost}
 use Rattle.cdp_running.proofs.Calls.{word-1, word-2, word-3, word-4, word-taken, of-word}
-use Rattle.tracker_array.specs.Array.{encodeOf}
+use Rattle.tracker_array.specs.Array.{encodeOf, isOn}
 use Rattle.tracker_array.specs.Place as P
-use Rattle.tracker_array.specs.Read.{place, isOn, trackerIn}
+use Rattle.tracker_array.specs.Read.{place, trackerIn}
 use Rattle.tracker_array.specs.Good.{GoodArray}
 use Rattle.in_place.specs.Calls.{StepInPlace, WordInPlace}
 use Rattle.in_place.specs.Quiet.{quietId, checkedLanes, Passed, quietTold}

@@ -26,9 +26,9 @@ use Rattle.cdp_running.specs.declared.Tracker.{Tracker}
 use Rattle.cdp_running.specs.Tracker.{acceptOf, resetOf}
 use Rattle.cdp_running.specs.Next.{nextOf}
 use Rattle.cdp_running.specs.Word.{positionNow}
-use Rattle.tracker_array.specs.Array.{packetNumbers, stateNumber, encodeOf}
+use Rattle.tracker_array.specs.Array.{packetNumbers, stateNumber, encodeOf, isOn}
 use Rattle.tracker_array.specs.Place as P
-use Rattle.tracker_array.specs.Read.{place, isOn, trackerIn}
+use Rattle.tracker_array.specs.Read.{place, trackerIn}
 use Rattle.tracker_array.specs.Good.{GoodArray}
 use Rattle.tracker_array.proofs.Laws.{flag-back}
 use Rattle.in_place.specs.Storing.{storesOf, tdhStores, putIf}

@@ -25,9 +25,9 @@ use Rattle.payload.specs.declared.PayloadAnswer.{PayloadAnswer}
 use Rattle.payload.specs.Payload.{PayloadPost}
 use Rattle.payload.proofs.Loop as Loop
 use Rattle.payload.proofs.Loop.{Going, refused-1, refused-2, further-silent, ended, stopped}
-use Rattle.tracker_array.specs.Array.{encodeOf}
+use Rattle.tracker_array.specs.Array.{encodeOf, isOn, Sized}
 use Rattle.tracker_array.specs.Place as P
-use Rattle.tracker_array.specs.Read.{place, isOn, trackerIn, Sized}
+use Rattle.tracker_array.specs.Read.{place, trackerIn}
 use Rattle.tracker_array.specs.Good.{GoodArray}
 use Rattle.tracker_array.proofs.Laws.{reads-back}
 use Rattle.in_place.specs.declared.PayloadTold.{PayloadTold}

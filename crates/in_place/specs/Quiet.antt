@@ -15,7 +15,8 @@ use Rattle.payload_fsm.specs.Step.{amongData}
 use Rattle.stored.specs.declared.FrameTold.the-variants as F
 use Rattle.cdp_running.specs.declared.Taken.{Taken}
 use Rattle.tracker_array.specs.Place as P
-use Rattle.tracker_array.specs.Read.{place, isOn, trackerIn}
+use Rattle.tracker_array.specs.Array.{isOn}
+use Rattle.tracker_array.specs.Read.{place, trackerIn}
 
 abbrev pub quietId : ℕ → ℕ → Bool
 quietId lanes id = isDataId id && isLaneActive (laneOf id) lanes

@@ -14,7 +14,8 @@ use Rattle.payload_fsm.specs.declared.ItsPayloadWord.{ItsPayloadWord}
 use Rattle.payload_fsm.specs.declared.ItsPayloadWord.the-variants as K
 use Rattle.stored.specs.Stored.{firstCdw}
 use Rattle.tracker_array.specs.Place as P
-use Rattle.tracker_array.specs.Read.{place, isOn}
+use Rattle.tracker_array.specs.Array.{isOn}
+use Rattle.tracker_array.specs.Read.{place}
 
 -- Numbers stored from a place on, if so.
 abbrev pub putIf : Bool → ℕ → List ℕ → List ℕ → List ℕ

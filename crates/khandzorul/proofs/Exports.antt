@@ -9,19 +9,24 @@ use borrow.Author.Tests.{eqb-true, eq-eqb, ne-eqb, not-true, not-false}
 use Rattle.words.proofs.Tests.{tests}
 use Rattle.packet.specs.declared.Rule.{Rule}
 use Rattle.packet.specs.declared.Packet.{Packet}
+use Rattle.records.specs.Records.{flat, room, over}
 use Rattle.cdp_running.specs.declared.Tracker.{Tracker}
 use Rattle.cdp_running.specs.declared.Told.{Told}
 use Rattle.cdp_running.specs.declared.Told.the-variants.{Refused}
-use Rattle.cdp_running.specs.Tracker.{startOf}
-use Rattle.tracker_array.specs.Array.{size, writtenTo}
-use Rattle.tracker_array.specs.Read.{isOn, ruleOf, trackerIn, isTracker, Is, Not, decodeOf}
+use Rattle.cdp_running.specs.Tracker.{startOf, resetOf, packetCall}
+use Rattle.cdp_running.specs.Word as Word
+use Rattle.cdp_running.specs.Word.{wordCall, recordsIn}
+use Rattle.payload.specs.Payload as Payload
+use Rattle.payload.specs.Payload.{payloadCall}
+use Rattle.tracker_array.specs.Array.{size, encodeOf, writtenTo, isOn, ruleOf}
+use Rattle.tracker_array.specs.Read.{trackerIn, isTracker}
 use Rattle.tracker_array.specs.Good.{GoodArray}
-use Rattle.tracker_array.proofs.Laws.{is-tracker, no-tracker, good-array}
+use Rattle.tracker_array.proofs.Laws.{tests-decide, read-as, no-tracker, good-array}
 use Rattle.in_place.specs.declared.PayloadTold.{PayloadTold}
 use Rattle.in_place.specs.Calls.{PacketInPlace, ResetInPlace, WordInPlace, PayloadInPlace}
 use Rattle.khandzorul.specs.declared.WordNumbers.{WordNumbers}
-use Rattle.khandzorul.specs.Answer.{noTracker, noSettings, toldNumbers}
-use Rattle.khandzorul.specs.Calls.{Asked, maxPeriod, areSettings, StartOn, PacketOn, ResetOn, WordOn, PayloadOn}
+use Rattle.khandzorul.specs.Answer.{noTracker, noSettings, toldNumbers, paidNumbers}
+use Rattle.khandzorul.specs.Calls.{Asked, maxPeriod, areSettings, On, StartOn, PacketOn, ResetOn, WordOn, PayloadOn}
 
 -- A period of settings fits, where there is one.
 pub period-fits : (s : Asked) → areSettings s ≡ true → isOn (s .periodic) ≡ true → s .period ≤ maxPeriod
@@ -68,20 +73,20 @@ module _ (a : List ℕ) (s : Asked) where
 module _ (a : List ℕ) {r : Bool} (asked : r ≡ isTracker a) where
   -- Where there is no tracker, 100, and all stays.
   module _ (no : not r ≡ true) where
-    none : decodeOf a ≡ Not
-    none = sym (no-tracker a (sym asked ∙ not-true r no))
+    none : {A : Type 0} {x otherwise : A} {call : Tracker → A} → x ≡ otherwise → On a x otherwise call
+    none p = record { is = λ t i. absurd (no-tracker a (sym asked ∙ not-true r no) t i); none = λ h. p }
 
     pub packet-none : {p : Packet} → PacketOn a p noTracker a
-    packet-none = record { answer = simp none; tracker = simp none }
+    packet-none = record { answer = none refl; tracker = none refl }
 
     pub reset-none : ResetOn a noTracker a
-    reset-none = record { answer = simp none; tracker = simp none }
+    reset-none = record { answer = none refl; tracker = none refl }
 
     pub word-none : {bytes buffer : List ℕ} {n : WordNumbers} → n ≡ toldNumbers (Refused noTracker) → WordOn a bytes buffer n a buffer
-    word-none p = record { answer = simp none p; tracker = simp none; buffer-is = simp none }
+    word-none p = record { answer = none p; tracker = none refl; buffer-is = none refl }
 
     pub payload-none : {bytes buffer : List ℕ} → PayloadOn a bytes buffer (record { refusal = noTracker; words = 0; records = 0 }) a buffer
-    payload-none = record { answer = simp none; tracker = simp none; buffer-is = simp none }
+    payload-none = record { answer = none refl; tracker = none refl; buffer-is = none refl }
 
   -- Where there is one, what the call on its numbers gives.
   module _ (yes : not r ≡ false) where
@@ -91,24 +96,32 @@ module _ (a : List ℕ) {r : Bool} (asked : r ≡ isTracker a) where
     pub is-good : GoodArray a
     is-good = good-array a one
 
-    is : decodeOf a ≡ Is (trackerIn a)
-    is = sym (is-tracker a refl one)
+    is : {A : Type 0} {x otherwise : A} (call : Tracker → A) → x ≡ call (trackerIn a) → On a x otherwise call
+    is call p = record { is = λ t i. p ∙ ap call (read-as a t i); none = λ h. absurd (h (trackerIn a) (tests-decide a .0 one)) }
 
     pub packet-done : {p : Packet} {n : ℕ} {after : List ℕ} → PacketInPlace a p n after → PacketOn a p n after
-    packet-done w = record { answer = rw is (w .answer); tracker = rw is (w .numbers) }
+    packet-done {p} w =
+        record { answer = is (λ t. packetCall t p .refusal) (w .answer); tracker = is (λ t. encodeOf (packetCall t p .tracker)) (w .numbers) }
 
     pub reset-done : {after : List ℕ} → ResetInPlace a after → ResetOn a 0 after
-    reset-done w = record { answer = rw is; tracker = rw is (w .numbers) }
+    reset-done w = record { answer = is (λ t. 0) refl; tracker = is (λ t. encodeOf (resetOf t)) (w .numbers) }
 
     pub word-done : {bytes buffer : List ℕ} {told : Told} {n : WordNumbers} {after buffer-after : List ℕ} → WordInPlace a bytes buffer told after buffer-after
         → n ≡ toldNumbers told → WordOn a bytes buffer n after buffer-after
-    word-done w p = record { answer = rw is (p ∙ ap toldNumbers (w .answer)); tracker = rw is (w .numbers); buffer-is = rw is (w .buffer-is) }
+    word-done {bytes} {buffer} w p =
+        record {
+          answer = is (λ t. toldNumbers (Word.answerOf t (wordCall t bytes (room buffer)) .told)) (p ∙ ap toldNumbers (w .answer));
+          tracker = is (λ t. encodeOf (Word.answerOf t (wordCall t bytes (room buffer)) .tracker)) (w .numbers);
+          buffer-is = is (λ t. over (flat (recordsIn (wordCall t bytes (room buffer)))) buffer) (w .buffer-is);
+        }
 
     pub payload-done : {bytes buffer : List ℕ} {told : PayloadTold} {after buffer-after : List ℕ} → PayloadInPlace a bytes buffer told after buffer-after
         → PayloadOn a bytes buffer (record { refusal = told .refusal; words = told .words; records = told .records }) after buffer-after
-    payload-done w =
+    payload-done {bytes} {buffer} w =
         record {
-          answer = rw is (ap (λ (x : PayloadTold). record { refusal = x .refusal; words = x .words; records = x .records }) (w .answer));
-          tracker = rw is (w .numbers);
-          buffer-is = rw is (w .buffer-is);
+          answer =
+              is (λ t. paidNumbers (Payload.answerOf (payloadCall t bytes (room buffer))))
+              (ap (λ (x : PayloadTold). record { refusal = x .refusal; words = x .words; records = x .records }) (w .answer));
+          tracker = is (λ t. encodeOf (payloadCall t bytes (room buffer) .tracker)) (w .numbers);
+          buffer-is = is (λ t. over (flat (payloadCall t bytes (room buffer) .records)) buffer) (w .buffer-is);
         }

@@ -18,9 +18,8 @@ use Rattle.cdp_running.specs.Word as Word
 use Rattle.cdp_running.specs.Word.{Outcome, taken, refused, wordCall}
 use Rattle.payload.specs.Payload.{Run, stop, wordsFrom, payloadCall}
 use Rattle.payload.proofs.Run.{step-taken, step-refused}
-use Rattle.tracker_array.specs.Array.{size, encodeOf}
-use Rattle.tracker_array.specs.Read.{Decoded, Is, Not, decodeOf}
-use Rattle.tracker_array.proofs.Laws.{decode-encode, decoded-good, decoded-encodes}
+use Rattle.tracker_array.specs.Array.{size, encodeOf, IsTracker}
+use Rattle.tracker_array.proofs.Laws.{Decided, is, none, decide}
 use Rattle.in_place.proofs.Kept.{Kept, kept-start, kept-reset, kept-packet, kept-word, kept-payload}
 use Rattle.khandzorul.specs.declared.WordNumbers.{WordNumbers}
 use Rattle.khandzorul.specs.declared.PayloadNumbers.{PayloadNumbers}
@@ -29,31 +28,31 @@ use Rattle.khandzorul.specs.Calls.{Asked, areSettings, settingsFrom, Sta
 use Rattle.khandzorul.proofs.Exports.{period-fits}
 
 -- The numbers of a tracker are that tracker.
-again : {t : Tracker} {after : List ℕ} → after ≡ encodeOf t → Kept t → decodeOf after ≡ Is t
-again {t} {after} p k = ap decodeOf p ∙ decode-encode t (k .0) (k .1)
+again : {t : Tracker} {after : List ℕ} → after ≡ encodeOf t → Kept t → IsTracker after t
+again p k = record { numbers = p; good = k .0; sized = k .1 }
 
 pub start-holds : (a : List ℕ) (s : Asked) {r : ℕ} {after : List ℕ} → StartOn a s r after → areSettings s ≡ true → length a ≡ size
-    → decodeOf after ≡ Is (startOf (settingsFrom s))
+    → IsTracker after (startOf (settingsFrom s))
 start-holds a s w h l =
     again (simp (h, eq-eqb _ _ l) at (w .tracker)) (kept-start (settingsFrom s) (λ on. let low = period-fits s h on in omega arith))
 
-module _ (a : List ℕ) (t : Tracker) (e : decodeOf a ≡ Is t) where
+module _ (a : List ℕ) (t : Tracker) (i : IsTracker a t) where
   kept : Kept t
-  kept = decoded-good a t e
+  kept = (i .good, i .sized)
 
-  pub packet-holds : (p : Packet) {r : ℕ} {after : List ℕ} → PacketOn a p r after → decodeOf after ≡ Is (packetCall t p .tracker)
-  packet-holds p w = again (rw e at (w .tracker)) (kept-packet t kept p)
+  pub packet-holds : (p : Packet) {r : ℕ} {after : List ℕ} → PacketOn a p r after → IsTracker after (packetCall t p .tracker)
+  packet-holds p w = again (w .tracker .is t i) (kept-packet t kept p)
 
-  pub reset-holds : {r : ℕ} {after : List ℕ} → ResetOn a r after → decodeOf after ≡ Is (resetOf t)
-  reset-holds w = again (rw e at (w .tracker)) (kept-reset t kept)
+  pub reset-holds : {r : ℕ} {after : List ℕ} → ResetOn a r after → IsTracker after (resetOf t)
+  reset-holds w = again (w .tracker .is t i) (kept-reset t kept)
 
   pub word-holds : (bytes buffer : List ℕ) {r : WordNumbers} {after buffer-after : List ℕ} → WordOn a bytes buffer r after buffer-after
-      → decodeOf after ≡ Is (Word.answerOf t (wordCall t bytes (room buffer)) .tracker)
-  word-holds bytes buffer w = again (rw e at (w .tracker)) (kept-word t kept bytes (room buffer))
+      → IsTracker after (Word.answerOf t (wordCall t bytes (room buffer)) .tracker)
+  word-holds bytes buffer w = again (w .tracker .is t i) (kept-word t kept bytes (room buffer))
 
   pub payload-holds : (bytes buffer : List ℕ) {r : PayloadNumbers} {after buffer-after : List ℕ} → PayloadOn a bytes buffer r after buffer-after
-      → decodeOf after ≡ Is (payloadCall t bytes (room buffer) .tracker)
-  payload-holds bytes buffer w = again (rw e at (w .tracker)) (kept-payload t bytes (room buffer) kept)
+      → IsTracker after (payloadCall t bytes (room buffer) .tracker)
+  payload-holds bytes buffer w = again (w .tracker .is t i) (kept-payload t bytes (room buffer) kept)
 
 -- A refused start, packet or reset leaves the numbers as they were.
 pub start-refused : (a : List ℕ) (s : Asked) {r : ℕ} {after : List ℕ} → StartOn a s r after → (r ≡ 0 → ⊥) → after ≡ a
@@ -67,37 +66,37 @@ start-refused a s {r} {after} w h = at (eqb (length a) size) (areSettings s) (w 
 
 pub packet-refused : (a : List ℕ) (p : Packet) {r : ℕ} {after : List ℕ} → PacketOn a p r after → (r ≡ 0 → ⊥) → after ≡ a
 unfolding packetCall
-packet-refused a p {r} {after} w h = at (decodeOf a) refl (inRange p) refl
+packet-refused a p {r} {after} w h = at (decide a) (inRange p) refl
   where
-    at : (d : Decoded) → decodeOf a ≡ d → (b : Bool) → inRange p ≡ b → after ≡ a
-    at (Is t) e true i = absurd (h (simp (e, i) at (w .answer)))
-    at (Is t) e false i = (simp (e, i) at (w .tracker)) ∙ sym (decoded-encodes a t e)
-    at Not e b i = simp e at (w .tracker)
+    at : Decided a → (b : Bool) → inRange p ≡ b → after ≡ a
+    at (is t i) true e = absurd (h (simp e at (w .answer .is t i)))
+    at (is t i) false e = (simp e at (w .tracker .is t i)) ∙ sym (i .numbers)
+    at (none other) b e = w .tracker .none other
 
 pub reset-refused : (a : List ℕ) {r : ℕ} {after : List ℕ} → ResetOn a r after → (r ≡ 0 → ⊥) → after ≡ a
-reset-refused a {r} {after} w h = at (decodeOf a) refl
+reset-refused a {r} {after} w h = at (decide a)
   where
-    at : (d : Decoded) → decodeOf a ≡ d → after ≡ a
-    at (Is t) e = absurd (h (simp e at (w .answer)))
-    at Not e = simp e at (w .tracker)
+    at : Decided a → after ≡ a
+    at (is t i) = absurd (h (w .answer .is t i))
+    at (none other) = w .tracker .none other
 
 -- A refused word leaves both arrays, and all other numbers of its answer are 0.
 pub word-refused : (a bytes buffer : List ℕ) {r : WordNumbers} {after buffer-after : List ℕ} → WordOn a bytes buffer r after buffer-after → (r .refusal ≡ 0 → ⊥)
     → (after ≡ a) × ((buffer-after ≡ buffer) × (r ≡ toldNumbers (Refused (r .refusal))))
 unfolding flat
-word-refused a bytes buffer {r} {after} {buffer-after} w h = at (decodeOf a) refl
+word-refused a bytes buffer {r} {after} {buffer-after} w h = at (decide a)
   where
     numbers : (n : ℕ) → r ≡ toldNumbers (Refused n) → r ≡ toldNumbers (Refused (r .refusal))
     numbers n p = p ∙ ap (λ (k : ℕ). toldNumbers (Refused k)) (sym (ap (λ (x : WordNumbers). x .refusal) p))
 
-    by : (t : Tracker) → decodeOf a ≡ Is t → (o : Outcome) → wordCall t bytes (room buffer) ≡ o
+    by : (t : Tracker) → IsTracker a t → (o : Outcome) → wordCall t bytes (room buffer) ≡ o
         → (after ≡ a) × ((buffer-after ≡ buffer) × (r ≡ toldNumbers (Refused (r .refusal))))
-    by t e (taken x) c = absurd (h (ap (λ (x : WordNumbers). x .refusal) (simp (e, c) at (w .answer))))
-    by t e (refused n) c = ((simp (e, c) at (w .tracker)) ∙ sym (decoded-encodes a t e), (simp (e, c) at (w .buffer-is), numbers n (simp (e, c) at (w .answer))))
+    by t i (taken x) c = absurd (h (ap (λ (n : WordNumbers). n .refusal) (simp c at (w .answer .is t i))))
+    by t i (refused n) c = ((simp c at (w .tracker .is t i)) ∙ sym (i .numbers), (simp c at (w .buffer-is .is t i), numbers n (simp c at (w .answer .is t i))))
 
-    at : (d : Decoded) → decodeOf a ≡ d → (after ≡ a) × ((buffer-after ≡ buffer) × (r ≡ toldNumbers (Refused (r .refusal))))
-    at (Is t) e = by t e (wordCall t bytes (room buffer)) refl
-    at Not e = (simp e at (w .tracker), (simp e at (w .buffer-is), numbers noTracker (simp e at (w .answer))))
+    at : Decided a → (after ≡ a) × ((buffer-after ≡ buffer) × (r ≡ toldNumbers (Refused (r .refusal))))
+    at (is t i) = by t i (wordCall t bytes (room buffer)) refl
+    at (none other) = (w .tracker .none other, (w .buffer-is .none other, numbers noTracker (w .answer .none other)))
 
 -- Words of which none was taken leave the tracker and give no records.
 Stays : Tracker → Run → Type 0
@@ -131,12 +130,12 @@ none-paid t bytes places = at (eqb (length bytes % 10) 0) (t .accepted)
 pub payload-refused : (a bytes buffer : List ℕ) {r : PayloadNumbers} {after buffer-after : List ℕ} → PayloadOn a bytes buffer r after buffer-after → r .words ≡ 0
     → (after ≡ a) × (buffer-after ≡ buffer)
 unfolding flat Stays
-payload-refused a bytes buffer {r} {after} {buffer-after} w z = at (decodeOf a) refl
+payload-refused a bytes buffer {r} {after} {buffer-after} w z = at (decide a)
   where
-    at : (d : Decoded) → decodeOf a ≡ d → (after ≡ a) × (buffer-after ≡ buffer)
-    at (Is t) e =
+    at : Decided a → (after ≡ a) × (buffer-after ≡ buffer)
+    at (is t i) =
         let run = payloadCall t bytes (room buffer) in
-        let words = ap (λ (x : PayloadNumbers). x .words) (rw e at (w .answer)) in
+        let words = ap (λ (x : PayloadNumbers). x .words) (w .answer .is t i) in
         let stays = none-paid t bytes (room buffer) (sym words ∙ z) in
-        ((rw e at (w .tracker)) ∙ ap encodeOf (stays .0) ∙ sym (decoded-encodes a t e), (rw e at (w .buffer-is)) ∙ ap (λ (l : List Record). over (flat l) buffer) (stays .1))
-    at Not e = (simp e at (w .tracker), simp e at (w .buffer-is))
+        (w .tracker .is t i ∙ ap encodeOf (stays .0) ∙ sym (i .numbers), w .buffer-is .is t i ∙ ap (λ (l : List Record). over (flat l) buffer) (stays .1))
+    at (none other) = (w .tracker .none other, w .buffer-is .none other)

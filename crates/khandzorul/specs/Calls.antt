@@ -1,5 +1,5 @@
--- What each exported function answers and leaves in the arrays that it is lent, by the calls of cdp_running and payload: the numbers of a tracker are
--- read, the call is made, and the numbers of the tracker that it gives are written. Where there is no tracker, 100, and all stays.
+-- What each exported function answers and leaves in the arrays that it is lent, by the calls of cdp_running and payload: where the array holds the numbers
+-- of a tracker, the call on that tracker is made, and the numbers of the tracker that it gives are written. Where it holds no tracker's, 100, and all stays.
 -- Assumes nothing.
 use Prim.Native.Nat.{ℕ}
 use mathlib.Core.Path.{_≡_}
@@ -17,16 +17,15 @@ use Rattle.cdp_running.specs.Word as Word
 use Rattle.cdp_running.specs.Word.{wordCall, recordsIn}
 use Rattle.payload.specs.Payload as Payload
 use Rattle.payload.specs.Payload.{payloadCall}
-use Rattle.tracker_array.specs.Array.{size, encodeOf, writtenTo}
-use Rattle.tracker_array.specs.Read.{isOn, isFlag, isRule, ruleOf, Decoded, Is, Not, decodeOf}
+use Rattle.tracker_array.specs.Array.{size, encodeOf, writtenTo, isOn, isFlag, isRule, ruleOf, IsTracker, NoTracker}
 use Rattle.khandzorul.specs.declared.WordNumbers.{WordNumbers}
 use Rattle.khandzorul.specs.declared.PayloadNumbers.{PayloadNumbers}
 use Rattle.khandzorul.specs.Answer.{noTracker, noSettings, toldNumbers, paidNumbers}
 
--- What a call on a tracker gives, and what it gives where there is none.
-abbrev pub on : {A : Type 0} → Decoded → A → (Tracker → A) → A
-on (Is t) none call = call t
-on Not none call = none
+-- What a call gives on the tracker whose numbers an array holds, and what it gives where there is none.
+pub record On {A : Type 0} (a : List ℕ) (x otherwise : A) (call : Tracker → A) : Type 0 where
+  pub is : (t : Tracker) → IsTracker a t → x ≡ call t
+  pub none : NoTracker a → x ≡ otherwise
 
 -- What khz_start is asked for, as it comes in: five numbers.
 pub record Asked : Type 0 where
@@ -64,23 +63,22 @@ pub record StartOn (a : List ℕ) (s : Asked) (r : ℕ) (after : List ℕ) : Typ
 
 -- khz_packet
 pub record PacketOn (a : List ℕ) (p : Packet) (r : ℕ) (after : List ℕ) : Type 0 where
-  pub answer : r ≡ on (decodeOf a) noTracker (λ t. packetCall t p .refusal)
-  pub tracker : after ≡ on (decodeOf a) a (λ t. encodeOf (packetCall t p .tracker))
+  pub answer : On a r noTracker (λ t. packetCall t p .refusal)
+  pub tracker : On a after a (λ t. encodeOf (packetCall t p .tracker))
 
 -- khz_reset
 pub record ResetOn (a : List ℕ) (r : ℕ) (after : List ℕ) : Type 0 where
-  pub answer : r ≡ on (decodeOf a) noTracker (λ t. 0)
-  pub tracker : after ≡ on (decodeOf a) a (λ t. encodeOf (resetOf t))
+  pub answer : On a r noTracker (λ t. 0)
+  pub tracker : On a after a (λ t. encodeOf (resetOf t))
 
 -- khz_word
 pub record WordOn (a bytes buffer : List ℕ) (r : WordNumbers) (after buffer-after : List ℕ) : Type 0 where
-  pub answer : r ≡ on (decodeOf a) (toldNumbers (Refused noTracker)) (λ t. toldNumbers (Word.answerOf t (wordCall t bytes (room buffer)) .told))
-  pub tracker : after ≡ on (decodeOf a) a (λ t. encodeOf (Word.answerOf t (wordCall t bytes (room buffer)) .tracker))
-  pub buffer-is : buffer-after ≡ on (decodeOf a) buffer (λ t. over (flat (recordsIn (wordCall t bytes (room buffer)))) buffer)
+  pub answer : On a r (toldNumbers (Refused noTracker)) (λ t. toldNumbers (Word.answerOf t (wordCall t bytes (room buffer)) .told))
+  pub tracker : On a after a (λ t. encodeOf (Word.answerOf t (wordCall t bytes (room buffer)) .tracker))
+  pub buffer-is : On a buffer-after buffer (λ t. over (flat (recordsIn (wordCall t bytes (room buffer)))) buffer)
 
 -- khz_payload
 pub record PayloadOn (a bytes buffer : List ℕ) (r : PayloadNumbers) (after buffer-after : List ℕ) : Type 0 where
-  pub answer : r
-      ≡ on (decodeOf a) (record { refusal = noTracker; words = 0; records = 0 }) (λ t. paidNumbers (Payload.answerOf (payloadCall t bytes (room buffer))))
-  pub tracker : after ≡ on (decodeOf a) a (λ t. encodeOf (payloadCall t bytes (room buffer) .tracker))
-  pub buffer-is : buffer-after ≡ on (decodeOf a) buffer (λ t. over (flat (payloadCall t bytes (room buffer) .records)) buffer)
+  pub answer : On a r (record { refusal = noTracker; words = 0; records = 0 }) (λ t. paidNumbers (Payload.answerOf (payloadCall t bytes (room buffer))))
+  pub tracker : On a after a (λ t. encodeOf (payloadCall t bytes (room buffer) .tracker))
+  pub buffer-is : On a buffer-after buffer (λ t. over (flat (payloadCall t bytes (room buffer) .records)) buffer)

@@ -4,7 +4,7 @@ ghost use mathlib.Core.Path.{_≡_};
 ghost use mathlib.Core.Bool.{true, cond};
 ghost use Prim.Native.Nat.{_≤_};
 ghost use Rattle.bench_file.specs.File.{checkOf};
-ghost use Rattle.tracker_array.specs.Read.{isOn};
+ghost use Rattle.tracker_array.specs.Array.{isOn};
 ghost use Rattle.khandzorul.specs.Calls.{maxPeriod, areSettings, StartOn, PacketOn, ResetOn, WordOn, PayloadOn};
 
 mod answer;

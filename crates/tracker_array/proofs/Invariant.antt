@@ -19,7 +19,8 @@ use Rattle.stored.specs.declared.Frame.{Frame}
 use Rattle.stored.specs.Kept.{GoodIhw, GoodTdh, GoodInternal, GoodCdw, GoodFrame}
 use Rattle.cdp_running.specs.declared.Tracker.{Tracker}
 use Rattle.cdp_running.specs.Tracker.{Good}
-use Rattle.tracker_array.specs.Read.{Sized, settingsGood, ihwGood, tdhGood, internalGood, cdwGood, frameGood, packetBlank, inStart, blank, isGood}
+use Rattle.tracker_array.specs.Array.{Sized}
+use Rattle.tracker_array.specs.Read.{settingsGood, ihwGood, tdhGood, internalGood, cdwGood, frameGood, packetBlank, inStart, blank, isGood}
 use Rattle.tracker_array.proofs.State.{starts}
 
 -- Each part: its test, and what holds of it.

@@ -9,7 +9,8 @@ use lib.Dec.{leb, ltb, eqb}
 use borrow.Author.Tests.{leb-true, ltb-true, eqb-true, eqb-false, le-leb, lt-leb, lt-ltb, eq-eqb}
 use Rattle.words.proofs.Tests.{both, tests-agree}
 use Rattle.cdp_running.specs.Tracker.{pastIhw, pastTdh}
-use Rattle.tracker_array.specs.Read.{isOn, stateOf}
+use Rattle.tracker_array.specs.Array.{isOn}
+use Rattle.tracker_array.specs.Read.{stateOf}
 use Rattle.tracker_array.proofs.State.{past-ihw, past-tdh}
 
 -- A number times a flag is the number or 0.

@@ -1,8 +1,8 @@
 -- Laws of the numbers: a tracker is read back from its numbers, and whatever is read is a tracker with just these numbers.
 -- Assumes nothing.
 use Prim.Native.Nat.{ℕ, _-_, _≤_, _<_, _^_}
-use mathlib.Core.Path.{_≡_, refl, sym, ap, subst, _∙_}
-use mathlib.Core.Bool.{Bool, true, false, cond, _&&_, or-true}
+use mathlib.Core.Path.{_≡_, refl, sym, ap, _∙_}
+use mathlib.Core.Bool.{Bool, true, false, _&&_, or-true, true≢false}
 use mathlib.Core.List.{List, _++_}
 use mathlib.Core.Logic.{_↔_}
 use native.Mathlib.Omega.{arith}
@@ -14,9 +14,9 @@ use Rattle.packet.specs.declared.Rule.{Rule}
 use Rattle.packet.specs.declared.Rule.the-variants as R
 use Rattle.cdp_running.specs.declared.Tracker.{Tracker}
 use Rattle.cdp_running.specs.Tracker.{Good}
-use Rattle.tracker_array.specs.Array.{size, flag, ruleNumber, stateNumber, encodeOf}
+use Rattle.tracker_array.specs.Array.{size, flag, ruleNumber, stateNumber, encodeOf, isOn, isFlag, isRule, ruleOf, Sized, IsTracker, NoTracker}
 use Rattle.tracker_array.specs.Place as P
-use Rattle.tracker_array.specs.Read.{place, isOn, isFlag, isRule, ruleOf, settingsIn, trackerIn, zerosFrom, inForm, Sized, settingsGood, isGood, isTracker, Is, Not, decodeOf}
+use Rattle.tracker_array.specs.Read.{place, settingsIn, trackerIn, zerosFrom, inForm, settingsGood, isGood, isTracker}
 use Rattle.tracker_array.specs.Good.{InForm, Fits, GoodArray}
 use Rattle.tracker_array.proofs.State.{state-back, state-low, number-back}
 use Rattle.tracker_array.proofs.Stores.{numbersFrom, spelled, in-two, all-zero}
@@ -87,11 +87,6 @@ module _ (t : Tracker) where
 
   pub tracker-back : Good t → Sized t → isTracker (encodeOf t) ≡ true
   tracker-back g s = tracker-is (encodeOf t) .1 (long-back, (form-back, (state-back-low, ap isGood reads-back ∙ good-tests t g s)))
-
-  -- What was written is read again.
-  pub decode-encode : Good t → Sized t → decodeOf (encodeOf t) ≡ Is t
-  unfolding decodeOf
-  decode-encode g s = simp (tracker-back g s) (ap Is reads-back)
 
 -- No two trackers have the same numbers.
 pub encode-apart : (t u : Tracker) → encodeOf t ≡ encodeOf u → t ≡ u
@@ -164,35 +159,45 @@ bare-good a f off = tests-agree _ _ there back
         let bare = tests-good (trackerIn a) good .0 .fresh off in
         and-is _ _ .1 (both (settingsGood (settingsIn a)) _ good .0, ap (zerosFrom (P.unused - P.packet) P.packet) (own ∙ ap encodeOf bare))
 
-module _ (a : List ℕ) (t : Tracker) (e : decodeOf a ≡ Is t) where
-  decoded : (isTracker a ≡ true) × (trackerIn a ≡ t)
-  unfolding decodeOf
-  decoded = at (isTracker a) e
-    where
-      at : (b : Bool) → cond b (Is (trackerIn a)) Not ≡ Is t → (b ≡ true) × (trackerIn a ≡ t)
-      at true q = (refl, cc)
-      at false q = (cc, cc)
+-- The tests decide which numbers are a tracker's: those that pass them are those of the tracker that they are read as, and no others are a tracker's.
+pub tests-decide : (a : List ℕ) → (isTracker a ≡ true) ↔ IsTracker a (trackerIn a)
+tests-decide a = (
+  λ e. let (good, sized) = tracker-good a e in record { numbers = written a e; good = good; sized = sized },
+  λ i. ap isTracker (i .numbers) ∙ tracker-back (trackerIn a) (i .good) (i .sized),
+)
 
-  -- What was read is a tracker that the start or a call can have given, and the numbers are its own.
-  pub decoded-good : Good t × Sized t
-  decoded-good = subst (λ (u : Tracker). Good u × Sized u) (decoded .1) (tests-good (trackerIn a) (tracker-is a .0 (decoded .0) .1 .1 .1))
+pub read-as : (a : List ℕ) (t : Tracker) → IsTracker a t → trackerIn a ≡ t
+read-as a t i = ap trackerIn (i .numbers) ∙ reads-back t
 
-  pub decoded-encodes : a ≡ encodeOf t
-  decoded-encodes = written a (decoded .0) ∙ ap encodeOf (decoded .1)
+-- No numbers are those of two trackers.
+pub one-tracker : (a : List ℕ) (t u : Tracker) → IsTracker a t → IsTracker a u → t ≡ u
+one-tracker a t u i k = encode-apart t u (sym (i .numbers) ∙ k .numbers)
 
-  pub decoded-long : length a ≡ size
-  decoded-long = tracker-is a .0 (decoded .0) .0
+pub no-tracker : (a : List ℕ) → isTracker a ≡ false → NoTracker a
+no-tracker a e t i = true≢false (sym (ap isTracker (i .numbers) ∙ tracker-back t (i .good) (i .sized)) ∙ e)
+
+-- Numbers are a tracker's, or no tracker's.
+pub data Decided (a : List ℕ) : Type 0 where
+  is : (t : Tracker) → IsTracker a t → Decided a
+  none : NoTracker a → Decided a
+
+pub decide : (a : List ℕ) → Decided a
+decide a = at (isTracker a) refl
+  where
+    at : (b : Bool) → isTracker a ≡ b → Decided a
+    at true e = is (trackerIn a) (tests-decide a .0 e)
+    at false e = none (no-tracker a e)
 
 -- Zeros are no tracker, and neither is an array of another length.
-pub zeros-none : decodeOf (replicate size 0) ≡ Not
-unfolding decodeOf isTracker
-zeros-none = refl
+pub zeros-none : NoTracker (replicate size 0)
+unfolding isTracker
+zeros-none = no-tracker (replicate size 0) refl
 
-pub another-length : (a : List ℕ) → (length a ≡ size → ⊥) → decodeOf a ≡ Not
-unfolding decodeOf isTracker
-another-length a h = simp (ne-eqb _ _ h)
+pub another-length : (a : List ℕ) → (length a ≡ size → ⊥) → NoTracker a
+unfolding isTracker
+another-length a h = no-tracker a (simp (ne-eqb _ _ h))
 
--- What the code tests, one half after the other, and what it gives.
+-- What the code tests, one half after the other.
 module _ (a : List ℕ) where
   pub tested : {f g : Bool} → length a ≡ size → f ≡ inForm a → g ≡ (leb (place a P.state) 6 && isGood (trackerIn a)) → isTracker a ≡ (f && g)
   unfolding isTracker
@@ -201,11 +206,3 @@ module _ (a : List ℕ) where
   pub of-length : (length a ≡ size → ⊥) → isTracker a ≡ false
   unfolding isTracker
   of-length h = simp (ne-eqb _ _ h)
-
-  pub is-tracker : {t : Tracker} → t ≡ trackerIn a → isTracker a ≡ true → Is t ≡ decodeOf a
-  unfolding decodeOf
-  is-tracker p e = simp (p, e)
-
-  pub no-tracker : isTracker a ≡ false → Not ≡ decodeOf a
-  unfolding decodeOf
-  no-tracker e = simp e

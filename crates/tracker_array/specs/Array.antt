@@ -1,9 +1,10 @@
--- A tracker as 48 numbers, for callers who own its memory: which number stands where. The rest of the places are 0.
+-- A tracker as 48 numbers, for callers who own its memory: which number stands where, and which numbers are a tracker's. The rest of the places are 0.
 -- Assumes nothing.
-use Prim.Native.Nat.{ℕ, _-_}
-use mathlib.Core.Bool.{Bool, true, false, cond}
+use Prim.Native.Nat.{ℕ, _-_, _<_, _^_}
+use mathlib.Core.Path.{_≡_}
+use mathlib.Core.Bool.{Bool, true, false, cond, _||_}
 use mathlib.Core.List.{List, [], _∷_, _++_}
-use lib.Dec.{eqb}
+use lib.Dec.{leb, eqb}
 use lib.ListN.{length, replicate}
 use Rattle.packet.specs.declared.Rule.{Rule}
 use Rattle.packet.specs.declared.Rule.the-variants as R
@@ -17,6 +18,7 @@ use Rattle.stored.specs.declared.StoredCdw.{StoredCdw}
 use Rattle.stored.specs.declared.StoredIhw.{StoredIhw}
 use Rattle.stored.specs.declared.Frame.{Frame}
 use Rattle.cdp_running.specs.declared.Tracker.{Tracker}
+use Rattle.cdp_running.specs.Tracker.{Good}
 
 abbrev pub size : ℕ
 size = 48
@@ -30,6 +32,12 @@ abbrev pub flag : Bool → ℕ
 flag false = 0
 flag true = 1
 
+abbrev pub isOn : ℕ → Bool
+isOn n = eqb n 1
+
+abbrev pub isFlag : ℕ → Bool
+isFlag n = leb n 1
+
 abbrev pub stateNumber : State → ℕ
 stateNumber S.Ihw = 0
 stateNumber S.Tdh = 1
@@ -42,6 +50,13 @@ stateNumber S.CTdh = 6
 abbrev pub ruleNumber : Rule → ℕ
 ruleNumber R.One = 1
 ruleNumber R.Two = 2
+
+-- 02, ticket 9: rule 1 or rule 2.
+abbrev pub isRule : ℕ → Bool
+isRule n = eqb n 1 || eqb n 2
+
+abbrev pub ruleOf : ℕ → Rule
+ruleOf n = cond (eqb n 2) R.Two R.One
 
 abbrev pub settingsNumbers : Settings → List ℕ
 settingsNumbers s = flag (s .running) ∷ flag (s .frames) ∷ flag (s .periodic) ∷ s .period ∷ ruleNumber (s .rule) ∷ []
@@ -86,6 +101,22 @@ encodeOf t =
     filled
     (firstNumbers (t .settings) (t .accepted) (t .packet) (t .fsm .state) (t .count) (t .seen)
     ++ storedNumbers (t .ihw) (t .tdh) (t .internal) (t .cdw) (t .frame))
+
+-- What fits the widths of its types and the invariant does not speak of.
+pub record Sized (t : Tracker) : Type 0 where
+  pub period : t .settings .period < 2 ^ 32
+  pub orbit : t .tdh .orbit < 2 ^ 32
+  pub internal-orbit : t .internal .orbit < 2 ^ 32
+
+-- Which numbers are a tracker's: those of a tracker that meets its invariant, which the start and every call leave met, and the widths of its types.
+pub record IsTracker (a : List ℕ) (t : Tracker) : Type 0 where
+  pub numbers : a ≡ encodeOf t
+  pub good : Good t
+  pub sized : Sized t
+
+-- Numbers that are no tracker's.
+abbrev pub NoTracker : List ℕ → Type 0
+NoTracker a = (t : Tracker) → IsTracker a t → ⊥
 
 -- What an array holds after a tracker was written to it; one of another length stays as it was.
 abbrev pub writtenTo : List ℕ → Tracker → List ℕ

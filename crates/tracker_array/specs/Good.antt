@@ -6,9 +6,9 @@ use mathlib.Core.Bool.{true}
 use mathlib.Core.List.{List}
 use lib.ListN.{length}
 use Rattle.cdp_running.specs.Tracker.{Good}
-use Rattle.tracker_array.specs.Array.{size, encodeOf}
+use Rattle.tracker_array.specs.Array.{size, encodeOf, Sized}
 use Rattle.tracker_array.specs.Place as P
-use Rattle.tracker_array.specs.Read.{place, trackerIn, inForm, Sized}
+use Rattle.tracker_array.specs.Read.{place, trackerIn, inForm}
 
 -- Numbers that have a tracker's form: the flags that other numbers hang on are 0 or 1.
 pub record InForm (a : List ℕ) : Type 0 where

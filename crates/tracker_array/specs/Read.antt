@@ -1,6 +1,7 @@
--- Which numbers are a tracker, and which one: those that the start and the calls can have written, and no others.
+-- How the code reads numbers as a tracker, place by place, and by which tests it finds whether they are one. proofs/Laws.antt has that the tests decide
+-- exactly this (`tests-decide`).
 -- Assumes nothing.
-use Prim.Native.Nat.{ℕ, zero, suc, _-_, _<_, _^_}
+use Prim.Native.Nat.{ℕ, zero, suc, _-_, _^_}
 use mathlib.Core.Bool.{Bool, true, false, cond, not, _&&_, _||_}
 use mathlib.Core.List.{List}
 use lib.Dec.{leb, ltb, eqb}
@@ -19,30 +20,17 @@ use Rattle.stored.specs.declared.StoredIhw.{StoredIhw}
 use Rattle.stored.specs.declared.Frame.{Frame}
 use Rattle.cdp_running.specs.declared.Tracker.{Tracker}
 use Rattle.cdp_running.specs.Tracker.{pastIhw, pastTdh}
-use Rattle.tracker_array.specs.Array.{size, mark}
+use Rattle.tracker_array.specs.Array.{size, mark, isOn, isFlag, isRule, ruleOf}
 use Rattle.tracker_array.specs.Place as P
 
 abbrev pub place : List ℕ → ℕ → ℕ
 place a i = getD a i 0
-
-abbrev pub isOn : ℕ → Bool
-isOn n = eqb n 1
-
-abbrev pub isFlag : ℕ → Bool
-isFlag n = leb n 1
 
 abbrev pub stateOf : ℕ → State
 stateOf n =
     cond (eqb n 0) S.Ihw
     (cond (eqb n 1) S.Tdh
     (cond (eqb n 2) S.Data (cond (eqb n 3) S.CData (cond (eqb n 4) S.Three (cond (eqb n 5) S.CIhw S.CTdh)))))
-
--- 02, ticket 9: rule 1 or rule 2.
-abbrev pub isRule : ℕ → Bool
-isRule n = eqb n 1 || eqb n 2
-
-abbrev pub ruleOf : ℕ → Rule
-ruleOf n = cond (eqb n 2) R.Two R.One
 
 -- What the numbers say, each part from its own places.
 abbrev pub settingsIn : List ℕ → Settings
@@ -117,13 +105,7 @@ zerosFrom (suc n) i a = eqb (place a i) 0 && zerosFrom n (suc i) a
 abbrev pub inForm : List ℕ → Bool
 inForm a = eqb (place a P.mark) mark && (flagsFit a && (isRule (place a P.rule) && zerosFrom (size - P.unused) P.unused a))
 
--- What fits the widths of its types and the invariant does not speak of.
-pub record Sized (t : Tracker) : Type 0 where
-  pub period : t .settings .period < 2 ^ 32
-  pub orbit : t .tdh .orbit < 2 ^ 32
-  pub internal-orbit : t .internal .orbit < 2 ^ 32
-
--- These, and the invariant of cdp_running, `Good`, as tests: proofs/Invariant.antt has that they are the same.
+-- The invariant of cdp_running, `Good`, and the widths, `Sized`, as tests: proofs/Invariant.antt has that they are the same.
 abbrev pub settingsGood : Settings → Bool
 settingsGood s = ltb (s .period) (2 ^ 32) && (s .periodic || eqb (s .period) 0)
 
@@ -189,11 +171,3 @@ isGood t =
 -- The length, the form, one of the seven states, and the invariant.
 unfoldable pub isTracker : List ℕ → Bool
 isTracker a = eqb (length a) size && (inForm a && (leb (place a P.state) 6 && isGood (trackerIn a)))
-
--- What numbers are: a tracker, or none.
-pub data Decoded : Type 0 where
-  Is : Tracker → Decoded
-  Not : Decoded
-
-unfoldable pub decodeOf : List ℕ → Decoded
-decodeOf a = cond (isTracker a) (Is (trackerIn a)) Not

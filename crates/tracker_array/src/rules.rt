@@ -1,7 +1,6 @@
 // The two rules of a period as numbers.
 ghost use mathlib.Core.Path.{_≡_};
-ghost use Rattle.tracker_array.specs.Array.{ruleNumber};
-ghost use Rattle.tracker_array.specs.Read.{isRule, ruleOf};
+ghost use Rattle.tracker_array.specs.Array.{ruleNumber, isRule, ruleOf};
 use packet::Rule;
 
 pub fn rule_number(rule: Rule) -> u64

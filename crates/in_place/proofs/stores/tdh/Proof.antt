@@ -6,7 +6,8 @@ use mathlib.Core.Bool.{not, _&&_}
 use Prim.Native.Nat.{ℕ}
 use lib.Dec.{eqb}
 use Rattle.tracker_array.specs.Place as P
-use Rattle.tracker_array.specs.Read.{place, isOn}
+use Rattle.tracker_array.specs.Array.{isOn}
+use Rattle.tracker_array.specs.Read.{place}
 use Rattle.in_place.proofs.Storing.{tdh-stored}
 use borrow.Author.Needs.{needs}
 use Rattle.in_place.proofs.stores.tdh.Statement.{statement}

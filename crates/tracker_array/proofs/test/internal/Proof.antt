@@ -3,7 +3,8 @@
 use denote.Ref.{now}
 use lib.Dec.{ltb, eqb}
 use Rattle.tracker_array.specs.Place as P
-use Rattle.tracker_array.specs.Read.{place, isOn}
+use Rattle.tracker_array.specs.Array.{isOn}
+use Rattle.tracker_array.specs.Read.{place}
 use Rattle.tracker_array.proofs.Kept.{two}
 use borrow.Author.Needs.{needs}
 use Rattle.tracker_array.proofs.test.internal.Statement.{statement}

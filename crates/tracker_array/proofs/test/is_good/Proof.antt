@@ -10,7 +10,8 @@ use borrow.Author.Tests.{eq-eqb, ne-eqb}
 use Rattle.words.proofs.Tests.{fails, holds}
 use Rattle.packet.specs.Packet.{inRange, maxWords}
 use Rattle.tracker_array.specs.Place as P
-use Rattle.tracker_array.specs.Read.{place, isOn, settingsIn, packetIn, ihwIn, tdhIn, internalIn, cdwIn, frameIn, trackerIn, settingsGood, ihwGood, tdhGood, internalGood, cdwGood, frameGood, present, isGood}
+use Rattle.tracker_array.specs.Array.{isOn}
+use Rattle.tracker_array.specs.Read.{place, settingsIn, packetIn, ihwIn, tdhIn, internalIn, cdwIn, frameIn, trackerIn, settingsGood, ihwGood, tdhGood, internalGood, cdwGood, frameGood, present, isGood}
 use Rattle.tracker_array.proofs.Laws.{bare-good}
 use borrow.Author.Needs.{needs}
 use Rattle.tracker_array.proofs.test.is_good.Statement.{statement}

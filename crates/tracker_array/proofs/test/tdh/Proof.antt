@@ -7,7 +7,8 @@ use mathlib.Core.List.{List}
 use Prim.Native.Nat.{ℕ}
 use lib.Dec.{ltb, eqb}
 use Rattle.tracker_array.specs.Place as P
-use Rattle.tracker_array.specs.Read.{place, isOn, tdhIn, tdhGood}
+use Rattle.tracker_array.specs.Array.{isOn}
+use Rattle.tracker_array.specs.Read.{place, tdhIn, tdhGood}
 use Rattle.tracker_array.proofs.Kept.{three}
 use borrow.Author.Needs.{needs}
 use Rattle.tracker_array.proofs.test.tdh.Statement.{statement}
