@@ -157,28 +157,11 @@ fn show(a: Advanced, word: Word) {
     text(b"\n");
 }
 
-fn word_at(bytes: &[u8], at: usize) -> Word
-    requires { ⌜ at + 10 ≤ length (now bytes) ⌝ }
-{
-    Word::load([
-        bytes[at],
-        bytes[at + 1],
-        bytes[at + 2],
-        bytes[at + 3],
-        bytes[at + 4],
-        bytes[at + 5],
-        bytes[at + 6],
-        bytes[at + 7],
-        bytes[at + 8],
-        bytes[at + 9],
-    ])
-}
-
 // All whole words.
 fn show_words(bytes: &[u8]) {
     let mut fsm = ItsPayloadFsmContinuous::new();
     for i in 0..bytes.len() / Word::SIZE {
-        let word = word_at(bytes, Word::SIZE * i);
+        let word = Word::load_at(bytes, Word::SIZE * i);
         let a = fsm.advance(word);
         show(a, word);
         fsm = a.fsm;

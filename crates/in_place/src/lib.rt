@@ -88,7 +88,7 @@ fn taken_word(a: &mut [u64], bytes: &[u8], out: &mut [u64]) -> Told
     requires { ⌜ (length (now bytes) ≡ wordBytes) × ((isOn (place (now a) P.accepted) ≡ true) × (place (now a) P.count < maxWords)) ⌝ }
     ensures { λ r. ⌜ WordInPlace (now (a .entry)) (now (bytes .entry)) (now (out .entry)) r (now (a .exit)) (now (out .exit)) ⌝ }
 {
-    let word = step::load_at(bytes, 0);
+    let word = Word::load_at(bytes, 0);
     let taken = step::taken_as(a, word);
     let kind = taken.word;
     let guessed = taken.guessed;

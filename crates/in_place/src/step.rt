@@ -18,25 +18,6 @@ use tracker_array::place;
 use tracker_array::states;
 use words::Word;
 
-// The word at a place of a payload.
-pub(crate) fn load_at(bytes: &[u8], at: usize) -> Word
-    requires { ⌜ at + wordBytes ≤ length (now bytes) ⌝ }
-    ensures { λ r. ⌜ r ≡ wordOf (take wordBytes (drop at (now (bytes .entry)))) ⌝ }
-{
-    Word::load([
-        bytes[at],
-        bytes[at + 1],
-        bytes[at + 2],
-        bytes[at + 3],
-        bytes[at + 4],
-        bytes[at + 5],
-        bytes[at + 6],
-        bytes[at + 7],
-        bytes[at + 8],
-        bytes[at + 9],
-    ])
-}
-
 // Where the next word stands.
 pub(crate) fn position(a: &[u64]) -> u64
     requires { ⌜ GoodArray (now a) ⌝ }
@@ -68,7 +49,7 @@ pub(crate) fn step(a: &mut [u64], bytes: &[u8], at: usize, out: &mut [u64]) -> W
     requires { ⌜ at + wordBytes ≤ length (now bytes) ⌝ }
     ensures { λ r. ⌜ StepInPlace (now (a .entry)) (wordOf (take wordBytes (drop at (now (bytes .entry))))) (now (out .entry)) r (now (a .exit)) (now (out .exit)) ⌝ }
 {
-    let word = load_at(bytes, at);
+    let word = Word::load_at(bytes, at);
     let taken = taken_as(a, word);
     let here = position(a);
     let Written::Records(n) = rows::write(a, taken, word, here, out) else {

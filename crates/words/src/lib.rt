@@ -2,7 +2,8 @@
 // Document 01, "Words"; the Rust's words/its/status_words.rs and the files below it.
 ghost use mathlib.Core.Path.{_≡_};
 ghost use Prim.Native.Nat.{_+_, _-_, _^_, _<_, _≤_};
-ghost use Rattle.words.specs.Word.{wordOf, FromBufPost, idOf, bits, isSet};
+ghost use lib.ListN.{length, take, drop};
+ghost use Rattle.words.specs.Word.{wordBytes, wordOf, FromBufPost, idOf, bits, isSet};
 
 pub mod cdw;
 pub mod ddw;
@@ -61,6 +62,25 @@ impl Word {
         }
     }
 
+    // The word whose ten bytes stand at a place.
+    pub fn load_at(bytes: &[u8], at: usize) -> Word
+        requires { ⌜ at + wordBytes ≤ length (now bytes) ⌝ }
+        ensures { λ r. ⌜ r ≡ wordOf (take wordBytes (drop at (now (bytes .entry)))) ⌝ }
+    {
+        Word::load([
+            bytes[at],
+            bytes[at + 1],
+            bytes[at + 2],
+            bytes[at + 3],
+            bytes[at + 4],
+            bytes[at + 5],
+            bytes[at + 6],
+            bytes[at + 7],
+            bytes[at + 8],
+            bytes[at + 9],
+        ])
+    }
+
     // The word that a buffer is, or refusal 1 where it is not ten bytes.
     pub fn from_buf(buf: &[u8]) -> FromBuf
         ensures { λ r. ⌜ FromBufPost (now (buf .entry)) r ⌝ }
@@ -68,18 +88,7 @@ impl Word {
         if buf.len() != Word::SIZE {
             return FromBuf::Refused(Word::REFUSED_SIZE);
         }
-        FromBuf::Is(Word::load([
-            buf[0],
-            buf[1],
-            buf[2],
-            buf[3],
-            buf[4],
-            buf[5],
-            buf[6],
-            buf[7],
-            buf[8],
-            buf[9],
-        ]))
+        FromBuf::Is(Word::load_at(buf, 0))
     }
 
     // The id, byte 9.

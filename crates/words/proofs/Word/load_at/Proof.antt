@@ -1,19 +1,18 @@
--- `load_at` meets its contract: the ten bytes that it reads are the word.
+-- `Word::load_at` meets its contract: the ten bytes that it reads are the word.
 -- Assumes nothing.
 use denote.Ref.{now}
 use mathlib.Core.Path.{ap, _∙_}
 use native.Mathlib.Nat.{add-zero}
 use Rattle.words.specs.Word.{wordOf}
 use Rattle.words.proofs.Listing.{reads-part}
 use borrow.Author.Needs.{needs}
-use Rattle.in_place.proofs.step.load_at.Statement.{statement}
-use Rattle.in_place.proofs.step.load_at.Tie as tie
+use Rattle.words.proofs.Word.load_at.Statement.{statement}
+use Rattle.words.proofs.Word.load_at.Tie as tie
 
 returns : tie.Need-returns
 returns c =
     let c6 = c .before .before .before .before .before .before in
-    let c12 = c6 .before .before .before .before .before .before in
-    let s = c12 in
+    let s = c6 .before .before .before .before .before .before in
     c .load .ensures ∙ ap wordOf (simp add-zero at (reads-part 0 10 (s .args .at) (now (s .args .bytes)) (s .pre)))
 
 pub load-at-spec : {M : Type 1} → statement M
