@@ -146,7 +146,7 @@ def run_ours(singles, folder):
     for name in os.listdir(os.path.join(ROOT, 'crates')):
         os.symlink(os.path.join(ROOT, 'crates', name), os.path.join(work, 'crates', name))
     with open(os.path.join(ROOT, 'crates.txt')) as f, open(os.path.join(work, 'crates.txt'), 'w') as out:
-        out.write(f.read() + 'single: words records validators tdh_validator io\n')
+        out.write(f.read() + 'single: words records packet stored validators tdh_validator io\n')
     program = os.path.join(work, 'crates', 'single')
     shutil.copy(os.path.join(HERE, 'single.rattle'), os.path.join(program, 'src', 'main.rt'))
     with open(os.path.join(program, 'stdin'), 'wb') as f:
