@@ -14,7 +14,7 @@ use Rattle.packet.specs.declared.Rule.{Rule}
 use Rattle.packet.specs.declared.Rule.the-variants as R
 use Rattle.cdp_running.specs.declared.Tracker.{Tracker}
 use Rattle.cdp_running.specs.Tracker.{Good}
-use Rattle.tracker_array.specs.Array.{size, flag, ruleNumber, stateNumber, encodeOf, isOn, isFlag, isRule, ruleOf, Sized, IsTracker, NoTracker}
+use Rattle.tracker_array.specs.Array.{size, flag, ruleNumber, encodeOf, isOn, isFlag, isRule, ruleOf, Sized, IsTracker, NoTracker}
 use Rattle.tracker_array.specs.Place as P
 use Rattle.tracker_array.specs.Read.{place, settingsIn, trackerIn, zerosFrom, inForm, settingsGood, isGood, isTracker}
 use Rattle.tracker_array.specs.Good.{InForm, Fits, GoodArray}

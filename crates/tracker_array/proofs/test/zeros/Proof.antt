@@ -1,9 +1,9 @@
 -- `zeros` meets its contract. The loop's invariant: what was asked and what is still to be asked are the whole.
 -- Assumes nothing.
 use denote.Ref.{now}
-use mathlib.Core.Path.{_≡_, refl, sym, ap, _∙_}
-use mathlib.Core.Bool.{_&&_, and-true, and-assoc}
-use Prim.Native.Nat.{ℕ, suc, _-_, _≤_}
+use mathlib.Core.Path.{_≡_, refl, _∙_}
+use mathlib.Core.Bool.{_&&_}
+use Prim.Native.Nat.{_-_, _≤_}
 use native.Mathlib.Omega.{arith}
 use Rattle.tracker_array.specs.Read.{zerosFrom}
 use Rattle.tracker_array.proofs.Stores.{one-more, no-more}

@@ -1,8 +1,7 @@
 -- `rest` meets its contract. The loop's invariant: what is still to be stored makes the whole.
 -- Assumes nothing.
 use mathlib.Core.Path.{_≡_, refl, _∙_}
-use Prim.Native.Nat.{ℕ, _-_, _≤_}
-use native.Mathlib.Omega.{arith}
+use Prim.Native.Nat.{_-_}
 use lib.ListN.{length, replicate, length-set}
 use lib.Seq.{sets}
 use Rattle.tracker_array.specs.Array.{size}
