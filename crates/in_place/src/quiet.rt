@@ -1,4 +1,5 @@
-// Runs of data words that give no record, found by their ids alone. Nearly all words of a clean page are such.
+// Runs of quiet words: data words whose id alone tells that they give no record. Nearly all words of a clean page are such. Any other word without a record is
+// silent (`records::silent`), which its rows tell.
 ghost use mathlib.Core.Path.{_≡_};
 ghost use mathlib.Core.Bool.{_||_};
 ghost use Prim.Native.Nat.{_+_, _-_, _%_, _≤_, min};
