@@ -43,12 +43,12 @@ laneRow asked code ofInner lane active =
     when (asked && not (isActive a)) (laneCode code a) lane active
 
 abbrev pub dataRows : Settings → Bool → ℕ → StoredCdw → Bool → Word → List Row
-dataRows s seen lanes stored guessed w =
+dataRows s seen lanes last guessed w =
     let id = idOf w in
     let first = firstCdw seen w in
     let laned = s .running && not first in
     when guessed (guessCode K.DataWord) id 0
-    ∷ when (s .running && (first && (stored .stored && (differ (stored .user) (userFields w) && differ (wordIndex w) 0)))) 81 (wordIndex w) 0
+    ∷ when (s .running && (first && (last .stored && (differ (last .user) (userFields w) && differ (wordIndex w) 0)))) 81 (wordIndex w) 0
     ∷ when (not first && not (isDataId id)) 70 id 0
     ∷ laneRow (laned && inner w) 1072 true (innerLane id) lanes
     ∷ laneRow (laned && outer w) 1071 false (outerLane id) lanes

@@ -38,11 +38,11 @@ pub fn check(
     settings: Settings,
     seen: bool,
     lanes: u32,
-    stored: StoredCdw,
+    last: StoredCdw,
     guessed: bool,
     word: Word,
 ) -> [Row; MOST_RECORDS]
-    ensures { λ r. ⌜ r ≡ padded (dataRows settings seen lanes stored guessed word) ⌝ }
+    ensures { λ r. ⌜ r ≡ padded (dataRows settings seen lanes last guessed word) ⌝ }
 {
     let cdw = Cdw { word: word };
     let id = word.id();
@@ -57,7 +57,7 @@ pub fn check(
     let mut rows = [none(); MOST_RECORDS];
     rows[0] = when(guessed, 991, id as u64, 0);
     rows[1] = when(
-        settings.running & (first & (stored.stored & ((stored.user != user) & (index != 0)))),
+        settings.running & (first & (last.stored & ((last.user != user) & (index != 0)))),
         81,
         index as u64,
         0,

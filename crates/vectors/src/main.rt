@@ -27,7 +27,7 @@ struct Part {
 }
 
 // The tracker after a call of the file, and what the call was: a start, a word, one whose answer differs, the last one.
-struct Went {
+struct Replayed {
     tracker: Tracker,
     start: bool,
     word: bool,
@@ -160,7 +160,7 @@ fn same_answer(fd: i32, told: Told, out: &[u64; MOST_NUMBERS]) -> bool {
     }
 }
 
-fn word(t: Tracker, fd: i32) -> Went
+fn word(t: Tracker, fd: i32) -> Replayed
     requires { ⌜ Good t ⌝ }
     ensures { λ r. ⌜ Good (r .tracker) ⌝ }
 {
@@ -171,7 +171,7 @@ fn word(t: Tracker, fd: i32) -> Went
     let told = a.told;
     let after = a.tracker;
     let same = same_answer(fd, told, &out);
-    Went {
+    Replayed {
         tracker: after,
         start: false,
         word: true,
@@ -180,14 +180,14 @@ fn word(t: Tracker, fd: i32) -> Went
     }
 }
 
-fn start(fd: i32) -> Went
+fn start(fd: i32) -> Replayed
     ensures { λ r. ⌜ Good (r .tracker) ⌝ }
 {
     let next = take(fd, 5);
     let b = next.bytes;
     let settings = settings_of(&b);
     let t = Tracker::start(settings);
-    Went {
+    Replayed {
         tracker: t,
         start: true,
         word: false,
@@ -196,7 +196,7 @@ fn start(fd: i32) -> Went
     }
 }
 
-fn packet(t: Tracker, fd: i32) -> Went
+fn packet(t: Tracker, fd: i32) -> Replayed
     requires { ⌜ Good t ⌝ }
     ensures { λ r. ⌜ Good (r .tracker) ⌝ }
 {
@@ -205,7 +205,7 @@ fn packet(t: Tracker, fd: i32) -> Went
     let header = packet_of(&b);
     let a = t.packet(header);
     let after = a.tracker;
-    Went {
+    Replayed {
         tracker: after,
         start: false,
         word: false,
@@ -214,12 +214,12 @@ fn packet(t: Tracker, fd: i32) -> Went
     }
 }
 
-fn reset(t: Tracker) -> Went
+fn reset(t: Tracker) -> Replayed
     requires { ⌜ Good t ⌝ }
     ensures { λ r. ⌜ Good (r .tracker) ⌝ }
 {
     let after = t.reset();
-    Went {
+    Replayed {
         tracker: after,
         start: false,
         word: false,
@@ -229,11 +229,11 @@ fn reset(t: Tracker) -> Went
 }
 
 // The end of the file, or a call that there is none of.
-fn end(t: Tracker, broken: bool) -> Went
+fn end(t: Tracker, broken: bool) -> Replayed
     requires { ⌜ Good t ⌝ }
     ensures { λ r. ⌜ Good (r .tracker) ⌝ }
 {
-    Went {
+    Replayed {
         tracker: t,
         start: false,
         word: false,
@@ -243,7 +243,7 @@ fn end(t: Tracker, broken: bool) -> Went
 }
 
 // The next call of the file, by its number.
-fn step(t: Tracker, fd: i32) -> Went
+fn step(t: Tracker, fd: i32) -> Replayed
     requires { ⌜ Good t ⌝ }
     ensures { λ r. ⌜ Good (r .tracker) ⌝ }
 {
