@@ -1,18 +1,12 @@
 // Answers as the structs that cross to C.
 ghost use mathlib.Core.Path.{_≡_};
-ghost use mathlib.Core.Bool.{cond};
 ghost use Rattle.cdp_running.specs.declared.Told.the-variants as T;
 ghost use Rattle.cdp_running.specs.Answer.{frameNumber, frameStart, frameEnd};
 ghost use Rattle.khandzorul.specs.Answer.{toldNumbers};
 use crate::WordNumbers;
 use cdp_running::Told;
 use stored::FrameTold;
-
-fn flag(b: bool) -> u64
-    ensures { λ r. ⌜ r ≡ cond b 1 0 ⌝ }
-{
-    if b { 1 } else { 0 }
-}
+use tracker_array::flags::flag;
 
 fn frame_number(frame: FrameTold) -> u64
     ensures { λ r. ⌜ r ≡ frameNumber frame ⌝ }

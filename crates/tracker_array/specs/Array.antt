@@ -29,8 +29,7 @@ abbrev pub mark : ℕ
 mark = 0x4B485A04
 
 abbrev pub flag : Bool → ℕ
-flag false = 0
-flag true = 1
+flag b = cond b 1 0
 
 abbrev pub isOn : ℕ → Bool
 isOn n = eqb n 1

@@ -3,6 +3,7 @@ ghost use mathlib.Core.Path.{_≡_};
 ghost use Rattle.tracker_array.specs.Array.{writtenTo};
 ghost use Rattle.tracker_array.specs.Read.{isTracker};
 
+pub mod flags;
 pub mod place;
 pub mod read;
 pub mod rules;

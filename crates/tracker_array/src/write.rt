@@ -8,6 +8,7 @@ ghost use Rattle.tracker_array.specs.Array.{size, mark, flag, stateNumbe
 ghost use Rattle.tracker_array.specs.Place as P;
 use crate::MARK;
 use crate::SIZE;
+use crate::flags::flag;
 use crate::place;
 use crate::rules;
 use crate::states;
@@ -19,12 +20,6 @@ use stored::InternalTdh;
 use stored::StoredCdw;
 use stored::StoredIhw;
 use stored::StoredTdh;
-
-fn flag(b: bool) -> u64
-    ensures { λ r. ⌜ r ≡ flag b ⌝ }
-{
-    if b { 1 } else { 0 }
-}
 
 fn settings(s: Settings, a: &mut [u64])
     requires { ⌜ length (now a) ≡ size ⌝ }
