@@ -78,7 +78,7 @@ module _ {a₀ b out₀ : List ℕ} where
   payload-2 h whole e p = told-it p h (refused-2 (h .good) whole e)
 
   module _ {a out : List ℕ} {at used : ℕ} (k : Walk a₀ b out₀ a out at used) where
-    pub payload-0 : {r : PayloadTold} → length b ≤ at → r ≡ record { words = at / 10; records = used / 4; refusal = 0 } → PayloadInPlace a₀ b out₀ r a out
+    pub payload-0 : {r : PayloadTold} → length b ≤ at → r ≡ record { words = at / 10; records = used / recordWidth; refusal = 0 } → PayloadInPlace a₀ b out₀ r a out
     payload-0 past p = told-it p (k .good) (ended (k .going) past)
 
     -- Quiet data words, however many.
@@ -124,23 +124,23 @@ module _ {a₀ b out₀ : List ℕ} where
       on-part : {r : WordAnswer} {y : List ℕ} → WordPost (trackerIn a) bytes tail r y → WordPost (trackerIn a) (take 10 (midOf at (length b - at) b)) tail r y
       on-part {r} {y} w = subst (λ (l : List ℕ). WordPost (trackerIn a) (take 10 l) tail r y) (sym (mid-tail at b)) w
 
-      pub payload-3 : {r : PayloadTold} → maxWords ≤ place a P.count → r ≡ record { words = at / 10; records = used / 4; refusal = 3 } → PayloadInPlace a₀ b out₀ r a out
+      pub payload-3 : {r : PayloadTold} → maxWords ≤ place a P.count → r ≡ record { words = at / 10; records = used / recordWidth; refusal = 3 } → PayloadInPlace a₀ b out₀ r a out
       payload-3 h p =
           let w : WordPost (trackerIn a) bytes tail (answerOf (trackerIn a) (refused 3)) tail = word-3 (trackerIn a) bytes tail (k .good .good) (eq-eqb _ _ ten) (k .going .ready .accepted) h refl in
           told-it p (k .good)
-          (subst (λ (l : List ℕ). PayloadPost (trackerIn a₀) b out₀ (record { tracker = trackerIn a; words = at / 10; records = used / 4; refusal = 3 }) l) (back used (length out - used) out)
+          (subst (λ (l : List ℕ). PayloadPost (trackerIn a₀) b out₀ (record { tracker = trackerIn a; words = at / 10; records = used / recordWidth; refusal = 3 }) l) (back used (length out - used) out)
           (stopped (k .going) lt (on-part w) refl))
 
       module _ (low : place a P.count < maxWords) {l y : List ℕ} where
         pub walk-word : {n : ℕ} → StepInPlace a (wordOf bytes) tail (Records n) l y → length y ≡ length tail
-            → Walk a₀ b out₀ l (putMid used (length out - used) out y) (at + 10) (used + 4 * n)
+            → Walk a₀ b out₀ l (putMid used (length out - used) out y) (at + 10) (used + recordWidth * n)
         walk-word s kept =
             let u = trackerIn a in
             let w = wordOf bytes in
             at-tracker (nextOf u (takenAs u w) w) (took-numbers a bytes tail (k .good) ten (k .going .ready .accepted) low s) (sized-next u w (k .good .sized))
             (Loop.next (k .going) lt (on-part (took a bytes tail (k .good) ten (k .going .ready .accepted) low s)) kept refl)
 
-        pub payload-4 : {r : PayloadTold} → StepInPlace a (wordOf bytes) tail NoRoom l y → r ≡ record { words = at / 10; records = used / 4; refusal = 4 }
+        pub payload-4 : {r : PayloadTold} → StepInPlace a (wordOf bytes) tail NoRoom l y → r ≡ record { words = at / 10; records = used / recordWidth; refusal = 4 }
             → PayloadInPlace a₀ b out₀ r l (putMid used (length out - used) out y)
         payload-4 {r} s p =
             let same = denied-numbers a bytes tail (k .good) ten (k .going .ready .accepted) low s in

@@ -129,13 +129,13 @@ module _ {t : Tracker} {b out₀ : List ℕ} where
     room-left = omega (arith, length-flat (g .rs), ap length (mid-tail used out) ∙ length-drop used out)
 
     -- What a payload comes to where its words stopped here.
-    met : (n : ℕ) → runFrom b places cur at ≡ stop cur n → PayloadPost t b out₀ (record { tracker = cur; words = at / 10; records = used / 4; refusal = n }) out
+    met : (n : ℕ) → runFrom b places cur at ≡ stop cur n → PayloadPost t b out₀ (record { tracker = cur; words = at / 10; records = used / recordWidth; refusal = n }) out
     unfolding payloadCall
     met n stops =
         let run = g .comes ∙ ap (preceded (at / 10) (g .rs)) stops ∙ (λ i. record { tracker = cur; words = add-zero (at / 10) i; records = append-nil (g .rs) i; refusal = n }) in
         post (g .rs) (simp (eq-eqb _ _ (g .ready .whole), g .begun) run) (omega (arith, length-flat (g .rs))) (g .buffer-is) (g .ready .good)
 
-    pub ended : length b ≤ at → PayloadPost t b out₀ (record { tracker = cur; words = at / 10; records = used / 4; refusal = 0 }) out
+    pub ended : length b ≤ at → PayloadPost t b out₀ (record { tracker = cur; words = at / 10; records = used / recordWidth; refusal = 0 }) out
     unfolding wordsFrom
     ended past = let none : (length b - at) / 10 ≡ 0 = omega arith in met 0 (rw none)
 
@@ -174,7 +174,7 @@ module _ {t : Tracker} {b out₀ : List ℕ} where
       next kept told = onward-from (took cur outcome (rw same-call at (w .answer)) told) kept
 
       pub stopped : {n : ℕ} → r .told ≡ T.Refused n
-          → PayloadPost t b out₀ (record { tracker = r .tracker; words = at / 10; records = used / 4; refusal = n }) (putMid used (length out - used) out y)
+          → PayloadPost t b out₀ (record { tracker = r .tracker; words = at / 10; records = used / recordWidth; refusal = n }) (putMid used (length out - used) out y)
       stopped {n} told =
           let k = denied cur outcome (rw same-call at (w .answer)) told in
           let stays : putMid used (length out - used) out y ≡ out = after ∙ rw (k .0, append-nil) (sym (g .buffer-is)) in
