@@ -13,6 +13,7 @@ use borrow.Rule.Slice.PartMut.{putMid, midOf}
 use Rattle.words.specs.declared.Word.{Word}
 use Rattle.words.specs.Word.{wordOf}
 use Rattle.packet.specs.Packet.{maxWords}
+use Rattle.records.specs.Records.{recordWidth}
 use Rattle.records.specs.declared.Written.the-variants.{Records, NoRoom}
 use Rattle.records.proofs.Buffer.{mid-tail}
 use Rattle.cdp_running.specs.declared.Tracker.{Tracker}
