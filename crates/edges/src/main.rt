@@ -12,6 +12,9 @@ use report::Report;
 // The most numbers that the records of a word have.
 const MOST_NUMBERS: usize = records::MOST_RECORDS * RECORD_WIDTH;
 
+// The numbers of two records.
+const TWO_RECORDS: usize = 2 * RECORD_WIDTH;
+
 // How many files there are.
 const FILES: u8 = 64;
 
@@ -137,7 +140,7 @@ fn show_room() {
 }
 
 // The found period of a record 45, which stands alone or behind a 440; else a number that is none.
-fn found(out: [u64; 8]) -> u64 {
+fn found(out: [u64; TWO_RECORDS]) -> u64 {
     if out[1] == 45 {
         out[2]
     } else if out[RECORD_WIDTH + 1] == 45 {
@@ -151,7 +154,7 @@ fn found(out: [u64; 8]) -> u64 {
 fn tdh_taken(period: u32, page: u16) -> Tracker
     ensures { λ r. ⌜ Good r ⌝ }
 {
-    let mut out = [0u64; 2 * RECORD_WIDTH];
+    let mut out = [0u64; TWO_RECORDS];
     let begun = packet_taken(true, period, page).word(b"\0\0\0\0\0\0\0\0\0\xE0", &mut out);
     let answer = begun.tracker.word(b"\0\x30\0\0\0\0\0\0\0\xE8", &mut out);
     answer.tracker
@@ -169,7 +172,7 @@ fn show_period() {
         let mut word = [0, 0x30, 0, 0, 0, 0, 0, 0, 0, 0xE8];
         word[2] = (bc % 256) as u8;
         word[3] = (bc / 256) as u8;
-        let mut out = [0u64; 2 * RECORD_WIDTH];
+        let mut out = [0u64; TWO_RECORDS];
         let answer = t.word(&word, &mut out);
         let period = found(out);
         if period < 3564 {
@@ -191,7 +194,7 @@ fn show_period() {
 fn code_at_ihw(t: Tracker) -> u64
     requires { ⌜ Good t ⌝ }
 {
-    let mut out = [0u64; 2 * RECORD_WIDTH];
+    let mut out = [0u64; TWO_RECORDS];
     t.word(b"\0\0\0\0\0\0\0\0\0\xE0", &mut out);
     out[1]
 }
