@@ -94,11 +94,11 @@ module _ (t : Tracker) (bytes buffer : List ℕ) (g : Good t) where
     word-2 p = refusal 2 (simp (b, p))
 
     module _ (p : t .accepted ≡ true) where
-      pub word-3 : {r : WordAnswer} → maxWords ≤ t .count → r ≡ answerOf t (refused 3) → WordPost t bytes buffer r buffer
+      pub word-3 : {r : WordAnswer} → maxWords ≤ t .at .count → r ≡ answerOf t (refused 3) → WordPost t bytes buffer r buffer
       unfolding wordCall
       word-3 h = refusal 3 (simp (b, p, le-leb _ _ h))
 
-      module _ (h : t .count < maxWords) where
+      module _ (h : t .at .count < maxWords) where
         reached : wordCall t bytes (room buffer) ≡ cond (exceed (recordsOf t (wordOf bytes)) (room buffer)) (refused 4) (takenOf t (wordOf bytes))
         unfolding wordCall
         reached = simp (b, p, lt-leb _ _ h)

@@ -43,17 +43,17 @@ pub not-in : (kind : ItsPayloadWord) (code : ℕ) → among code (codesAs kind) 
 not-in kind code e {c} p q = true≢false (sym p ∙ ap (λ (n : ℕ). among n (codesAs kind)) q ∙ e)
 
 -- The interval has one of three codes, in either kind.
-interval-in : (kind : ItsPayloadWord) → In kind 1045 → In kind 1046 → In kind 45 → (t : Tracker) (w : Word) → In kind (interval (t .settings) (t .internal) w .code)
+interval-in : (kind : ItsPayloadWord) → In kind 1045 → In kind 1046 → In kind 45 → (t : Tracker) (w : Word) → In kind (interval (t .settings) (t .stored .internal) w .code)
 interval-in kind past back period t w =
-    let previous = t .internal .bc in
-    let difference = orbitDifference (t .internal .orbit) (triggerOrbit w) in
+    let previous = t .stored .internal .bc in
+    let difference = orbitDifference (t .stored .internal .orbit) (triggerOrbit w) in
     choice (In kind) (illegal previous (triggerBc w)) past
     (choice (In kind) (countsOrbits (t .settings .rule) && ranBack difference previous (triggerBc w)) back period)
 
 -- A data word and a CDW have the same rows. Those on a lane have 1074 where there is no such lane.
 data-in : (guessed : Bool) (t : Tracker) (w : Word) → Each (λ row. In K.DataWord (row .code)) (rowsAs K.DataWord guessed t w)
 data-in guessed t w =
-    let none : Bool → ℕ → Bool = λ inner lane. isMissing (laneAnswer inner lane (t .ihw .lanes)) in
+    let none : Bool → ℕ → Bool = λ inner lane. isMissing (laneAnswer inner lane (t .stored .ihw .lanes)) in
     (refl, (refl, (refl, (choice (In K.DataWord) (none true (innerLane (idOf w))) refl refl, (choice (In K.DataWord) (none false (outerLane (idOf w))) refl refl, (refl, tt))))))
 
 pub rows-in : (kind : ItsPayloadWord) (guessed : Bool) (t : Tracker) (w : Word) → Each (λ row. In kind (row .code)) (rowsAs kind guessed t w)

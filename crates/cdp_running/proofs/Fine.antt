@@ -49,10 +49,10 @@ module _ (t : Tracker) (w : Word) where
       omega (arith, counted (positionNow t) rows, count-low rows, six (a .word) (a .guessed) t w)
 
   -- Positions are at most 2^62 + 64 + 16 * 4095.
-  pub positions : Good t → t .count < maxWords → Each (λ r. r .position ≤ mostPosition) (recordsOf t w)
+  pub positions : Good t → t .at .count < maxWords → Each (λ r. r .position ≤ mostPosition) (recordsOf t w)
   unfolding recordsOf
   positions g h = given-each (λ r. r .position ≤ mostPosition) (positionNow t) (rowsOf t (takenAs t w) w) (all (rowsOf t (takenAs t w) w))
     where
       all : (rows : List Row) → Each (λ row. row .on ≡ true → positionNow t ≤ mostPosition) rows
       all [] = tt
-      all (row ∷ rows) = (λ _. position-most (t .packet) (t .count) (g .packet) h, all rows)
+      all (row ∷ rows) = (λ _. position-most (t .packet) (t .at .count) (g .packet) h, all rows)

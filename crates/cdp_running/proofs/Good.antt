@@ -19,14 +19,8 @@ use Rattle.packet.proofs.Places.{position-most}
 use Rattle.payload_fsm.specs.declared.ItsPayloadWord.{ItsPayloadWord}
 use Rattle.payload_fsm.specs.Kinds.{isIhw, isTdh, isData, isTdt}
 use Rattle.payload_fsm.specs.Step.{start}
-use Rattle.stored.proofs.Good.{good-ihw, good-tdh, good-internal, good-cdw, good-frame, kept-ihw, kept-tdh}
-use Rattle.stored.specs.declared.StoredTdh.{StoredTdh}
-use Rattle.stored.specs.declared.InternalTdh.{InternalTdh}
-use Rattle.stored.specs.declared.StoredCdw.{StoredCdw}
-use Rattle.stored.specs.Stored.{firstCdw, nextIhw, nextTdh, nextInternal, nextCdw, opens, closes, nextFrame}
-use Rattle.stored.specs.declared.StoredIhw.{StoredIhw}
-use Rattle.stored.specs.declared.Frame.{Frame}
-use Rattle.stored.specs.Kept.{noFrame, GoodIhw, GoodTdh, GoodInternal, GoodCdw, GoodFrame, noIhw, noTdh, noInternal, noCdw}
+use Rattle.stored.proofs.Good.{good-none, good-stored, good-frame, kept-ihw, kept-tdh}
+use Rattle.stored.specs.Kept.{noStored, noFrame}
 use Rattle.cdp_running.specs.declared.Tracker.{Tracker}
 use Rattle.cdp_running.specs.Tracker.{Good, startOf, resetOf, acceptOf, pastIhw, pastTdh}
 use Rattle.cdp_running.specs.Next.{nextOf}
@@ -52,13 +46,8 @@ begun s n =
       settings = record { running = s .running; frames = s .frames; periodic = s .periodic; period = n; rule = s .rule };
       accepted = false;
       packet = noPacket;
-      fsm = start;
-      count = 0;
-      seen = false;
-      ihw = noIhw;
-      tdh = noTdh;
-      internal = noInternal;
-      cdw = noCdw;
+      at = record { fsm = start; count = 0; seen = false };
+      stored = noStored;
       frame = noFrame;
     }
 
@@ -69,10 +58,7 @@ good-start s =
       settings = record { absent = absent-zero (s .periodic) (s .period) };
       packet = refl;
       count = omega arith;
-      ihw = record { lanes = omega arith; absent = λ _. refl };
-      tdh = record { trigger = omega arith; bc = omega arith; absent = λ _. refl };
-      internal = record { bc = omega arith; absent = λ _. refl };
-      cdw = record { user = omega arith; absent = λ _. refl };
+      stored = good-none;
       frame = record { start = omega arith; absent = λ _. refl; off = λ _. refl };
       ihw-present = λ e. clash (sym e);
       tdh-present = λ e. clash (sym e);
@@ -85,10 +71,7 @@ good-reset t g =
       settings = g .settings;
       packet = g .packet;
       count = g .count;
-      ihw = g .ihw;
-      tdh = g .tdh;
-      internal = g .internal;
-      cdw = g .cdw;
+      stored = g .stored;
       frame = g .frame;
       ihw-present = λ e. clash (sym e);
       tdh-present = λ e. clash (sym e);
@@ -101,30 +84,24 @@ good-accept t p g e =
       settings = g .settings;
       packet = e;
       count = omega arith;
-      ihw = g .ihw;
-      tdh = g .tdh;
-      internal = g .internal;
-      cdw = g .cdw;
+      stored = g .stored;
       frame = g .frame;
       ihw-present = g .ihw-present;
       tdh-present = g .tdh-present;
       fresh = λ f. clash f;
     }
 
-pub good-next : (t : Tracker) (w : Word) → Good t → t .accepted ≡ true → t .count < maxWords → Good (nextOf t (takenAs t w) w)
+pub good-next : (t : Tracker) (w : Word) → Good t → t .accepted ≡ true → t .at .count < maxWords → Good (nextOf t (takenAs t w) w)
 good-next t w g have h =
     let a = takenAs t w in
-    let c = comes (t .fsm .state) w in
+    let c = comes (t .at .fsm .state) w in
     record {
       settings = g .settings;
       packet = g .packet;
       count = omega arith;
-      ihw = good-ihw (a .word) w (t .ihw) (g .ihw);
-      tdh = good-tdh (a .word) w (t .tdh) (g .tdh);
-      internal = good-internal (a .word) w (t .internal) (g .internal);
-      cdw = good-cdw (a .word) (t .seen) w (t .cdw) (g .cdw);
-      frame = good-frame (t .settings .frames) (a .word) w (positionNow t) (t .frame) (position-most (t .packet) (t .count) (g .packet) h) (g .frame);
-      ihw-present = λ e. kept-ihw (a .word) w (t .ihw) (pastIhw (t .fsm .state)) (g .ihw-present) (c .ihw e);
-      tdh-present = λ e. kept-tdh (a .word) w (t .tdh) (pastTdh (t .fsm .state)) (g .tdh-present) (c .tdh e);
+      stored = good-stored (a .word) (t .at .seen) w (t .stored) (g .stored);
+      frame = good-frame (t .settings .frames) (a .word) w (positionNow t) (t .frame) (position-most (t .packet) (t .at .count) (g .packet) h) (g .frame);
+      ihw-present = λ e. kept-ihw (a .word) w (t .stored .ihw) (pastIhw (t .at .fsm .state)) (g .ihw-present) (c .ihw e);
+      tdh-present = λ e. kept-tdh (a .word) w (t .stored .tdh) (pastTdh (t .at .fsm .state)) (g .tdh-present) (c .tdh e);
       fresh = λ e. clash (sym have ∙ e);
     }

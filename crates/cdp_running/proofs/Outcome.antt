@@ -23,7 +23,7 @@ same e = cc
 pub record Admitted (t : Tracker) (bytes : List ℕ) (places : ℕ) : Type 0 where
   pub ten : length bytes ≡ 10
   pub accepted : t .accepted ≡ true
-  pub low : t .count < maxWords
+  pub low : t .at .count < maxWords
   pub fits : exceed (recordsOf t (wordOf bytes)) places ≡ false
 
 pub admitted-taken : (t : Tracker) (bytes : List ℕ) (places : ℕ) → Admitted t bytes places → wordCall t bytes places ≡ takenOf t (wordOf bytes)
@@ -34,7 +34,7 @@ module _ (t : Tracker) (bytes : List ℕ) (places : ℕ) {x : TakenWord} (e : wo
   pub taken-admitted : Admitted t bytes places
   unfolding wordCall
   taken-admitted =
-      let a = at (eqb (length bytes) 10) (t .accepted) (leb maxWords (t .count)) (exceed (recordsOf t (wordOf bytes)) places) e in
+      let a = at (eqb (length bytes) 10) (t .accepted) (leb maxWords (t .at .count)) (exceed (recordsOf t (wordOf bytes)) places) e in
       record { ten = eqb-true _ _ (a .0); accepted = a .1 .0; low = leb-false _ _ (a .1 .1 .0); fits = a .1 .1 .1 }
     where
       at : (a b c d : Bool)

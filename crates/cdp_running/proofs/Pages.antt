@@ -39,7 +39,7 @@ of-ihw K.Ddw0 = (refl, refl)
 
 module _ (t : Tracker) (w : Word) where
   abbrev From : ℕ → Type 0
-  From code = (code ≡ 1121 → t .fsm .state ≡ S.Ihw) × (code ≡ 1122 → t .fsm .state ≡ S.Three)
+  From code = (code ≡ 1121 → t .at .fsm .state ≡ S.Ihw) × (code ≡ 1122 → t .at .fsm .state ≡ S.Three)
 
   abbrev Told : Row → Type 0
   Told row = row .on ≡ true → From (row .code)
@@ -58,12 +58,12 @@ module _ (t : Tracker) (w : Word) where
 
   by-kind : (kind : ItsPayloadWord) (guessed : Bool) → takenAs t w .word ≡ kind → Each Told (rowsAs kind guessed t w)
   by-kind K.Ihw guessed e =
-      let three = isThree (t .fsm .state) in
+      let three = isThree (t .at .fsm .state) in
       let page = t .packet .page in
       let first : t .settings .running && (not three && differ page 0) ≡ true → From 1121 =
-      λ on. (λ _. start-or-three (t .fsm .state) w e (not-true three (asked (not three) (differ page 0) on)), λ q. absurd (omega arith)) in
+      λ on. (λ _. start-or-three (t .at .fsm .state) w e (not-true three (asked (not three) (differ page 0) on)), λ q. absurd (omega arith)) in
       let later : t .settings .running && (three && eqb page 0) ≡ true → From 1122 =
-      λ on. (λ q. absurd (omega arith), λ _. three-is (t .fsm .state) (asked three (eqb page 0) on)) in
+      λ on. (λ q. absurd (omega arith), λ _. three-is (t .at .fsm .state) (asked three (eqb page 0) on)) in
       (neither 30 refl refl, (neither 1120 refl refl, (first, (later, tt))))
   by-kind K.IhwContinuation guessed e = elsewhere K.IhwContinuation guessed refl
   by-kind K.Tdh guessed e = elsewhere K.Tdh guessed refl
@@ -75,7 +75,7 @@ module _ (t : Tracker) (w : Word) where
   by-kind K.Ddw0 guessed e = elsewhere K.Ddw0 guessed refl
 
   -- 1121 from the start state only, 1122 from the three-way state only.
-  pub only-there : Each (λ r. (r .code ≡ 1121 → t .fsm .state ≡ S.Ihw) × (r .code ≡ 1122 → t .fsm .state ≡ S.Three)) (recordsOf t w)
+  pub only-there : Each (λ r. (r .code ≡ 1121 → t .at .fsm .state ≡ S.Ihw) × (r .code ≡ 1122 → t .at .fsm .state ≡ S.Three)) (recordsOf t w)
   unfolding recordsOf
   only-there =
       let a = takenAs t w in
@@ -89,11 +89,11 @@ module _ (t : Tracker) (w : Word) where
 
   -- A clean IHW, with stop 0, gives no record on page 0 in the start state, and none on any later page in the three-way state.
   module _ (id : idOf w ≡ ihwId) (clear : isReserved0 w ≡ true) (stop : t .packet .stop ≡ 0) where
-    pub clean-first-page : t .fsm .state ≡ S.Ihw → t .packet .page ≡ 0 → recordsOf t w ≡ []
+    pub clean-first-page : t .at .fsm .state ≡ S.Ihw → t .packet .page ≡ 0 → recordsOf t w ≡ []
     unfolding recordsOf given
     clean-first-page s page = simp (s, id, clear, stop, page, and-false)
 
-    pub clean-later-page : t .fsm .state ≡ S.Three → 0 < t .packet .page → recordsOf t w ≡ []
+    pub clean-later-page : t .at .fsm .state ≡ S.Three → 0 < t .packet .page → recordsOf t w ≡ []
     unfolding recordsOf given
     clean-later-page s page =
         let above : eqb (t .packet .page) 0 ≡ false = ne-eqb (t .packet .page) 0 (λ e. omega arith) in

@@ -4,8 +4,13 @@ use Prim.Native.Nat.{_+_}
 use Rattle.words.specs.declared.Word.{Word}
 use Rattle.packet.specs.Packet.{positionOf}
 use Rattle.payload_fsm.specs.declared.Advanced.{Advanced}
-use Rattle.stored.specs.Stored.{nextIhw, nextTdh, nextInternal, nextCdw, nextSeen, nextFrame}
+use Rattle.stored.specs.Stored.{nextStored, nextSeen, nextFrame}
+use Rattle.cdp_running.specs.declared.At.{At}
 use Rattle.cdp_running.specs.declared.Tracker.{Tracker}
+
+-- Where the tracker is after a word: in the state that the word led to, one word further.
+abbrev pub nextAt : Advanced → At → At
+nextAt a old = record { fsm = a .fsm; count = old .count + 1; seen = nextSeen (a .word) (old .seen) }
 
 -- The tracker after a word that was taken as `a` says.
 abbrev pub nextOf : Tracker → Advanced → Word → Tracker
@@ -14,12 +19,7 @@ nextOf t a w =
       settings = t .settings;
       accepted = t .accepted;
       packet = t .packet;
-      fsm = a .fsm;
-      count = t .count + 1;
-      seen = nextSeen (a .word) (t .seen);
-      ihw = nextIhw (a .word) w (t .ihw);
-      tdh = nextTdh (a .word) w (t .tdh);
-      internal = nextInternal (a .word) w (t .internal);
-      cdw = nextCdw (a .word) (t .seen) w (t .cdw);
-      frame = nextFrame (t .settings .frames) (a .word) w (positionOf (t .packet) (t .count)) (t .frame);
+      at = nextAt a (t .at);
+      stored = nextStored (a .word) (t .at .seen) w (t .stored);
+      frame = nextFrame (t .settings .frames) (a .word) w (positionOf (t .packet) (t .at .count)) (t .frame);
     }

@@ -11,7 +11,7 @@ use Rattle.packet.specs.Packet.{noPacket, inRange, maxWords}
 use Rattle.payload_fsm.specs.declared.State.{State}
 use Rattle.payload_fsm.specs.declared.State.the-variants as S
 use Rattle.payload_fsm.specs.Step.{start}
-use Rattle.stored.specs.Kept.{noIhw, noTdh, noInternal, noCdw, noFrame, GoodIhw, GoodTdh, GoodInternal, GoodCdw, GoodFrame}
+use Rattle.stored.specs.Kept.{noStored, noFrame, GoodStored, GoodFrame}
 use Rattle.cdp_running.specs.declared.Tracker.{Tracker}
 use Rattle.cdp_running.specs.declared.PacketAnswer.{PacketAnswer}
 
@@ -22,13 +22,8 @@ startOf s =
       settings = settingsOf s;
       accepted = false;
       packet = noPacket;
-      fsm = start;
-      count = 0;
-      seen = false;
-      ihw = noIhw;
-      tdh = noTdh;
-      internal = noInternal;
-      cdw = noCdw;
+      at = record { fsm = start; count = 0; seen = false };
+      stored = noStored;
       frame = noFrame;
     }
 
@@ -39,13 +34,8 @@ resetOf t =
       settings = t .settings;
       accepted = t .accepted;
       packet = t .packet;
-      fsm = start;
-      count = t .count;
-      seen = t .seen;
-      ihw = t .ihw;
-      tdh = t .tdh;
-      internal = t .internal;
-      cdw = t .cdw;
+      at = record { fsm = start; count = t .at .count; seen = t .at .seen };
+      stored = t .stored;
       frame = t .frame;
     }
 
@@ -56,13 +46,8 @@ acceptOf t p =
       settings = t .settings;
       accepted = true;
       packet = p;
-      fsm = t .fsm;
-      count = 0;
-      seen = false;
-      ihw = t .ihw;
-      tdh = t .tdh;
-      internal = t .internal;
-      cdw = t .cdw;
+      at = record { fsm = t .at .fsm; count = 0; seen = false };
+      stored = t .stored;
       frame = t .frame;
     }
 
@@ -95,14 +80,11 @@ pastTdh S.CTdh = true
 pub record Good (t : Tracker) : Type 0 where
   pub settings : GoodSettings (t .settings)
   pub packet : inRange (t .packet) ≡ true
-  pub count : t .count ≤ maxWords
-  pub ihw : GoodIhw (t .ihw)
-  pub tdh : GoodTdh (t .tdh)
-  pub internal : GoodInternal (t .internal)
-  pub cdw : GoodCdw (t .cdw)
+  pub count : t .at .count ≤ maxWords
+  pub stored : GoodStored (t .stored)
   pub frame : GoodFrame (t .settings .frames) (t .frame)
-  pub ihw-present : pastIhw (t .fsm .state) ≡ true → t .ihw .stored ≡ true
-  pub tdh-present : pastTdh (t .fsm .state) ≡ true → t .tdh .stored ≡ true
+  pub ihw-present : pastIhw (t .at .fsm .state) ≡ true → t .stored .ihw .stored ≡ true
+  pub tdh-present : pastTdh (t .at .fsm .state) ≡ true → t .stored .tdh .stored ≡ true
   pub fresh : t .accepted ≡ false → t ≡ startOf (t .settings)
 
 -- What a packet call gives.

@@ -31,17 +31,17 @@ use Rattle.cdp_running.specs.Next.{nextOf}
 
 -- What a word is taken as.
 abbrev pub takenAs : Tracker → Word → Advanced
-takenAs t w = advanceOf (t .fsm .state) w
+takenAs t w = advanceOf (t .at .fsm .state) w
 
 -- The rows of a word by what it was taken as.
 abbrev pub rowsAs : ItsPayloadWord → Bool → Tracker → Word → List Row
-rowsAs K.Ihw guessed t w = Ihw.ihwRows (t .settings) (t .packet) (isThree (t .fsm .state)) w
+rowsAs K.Ihw guessed t w = Ihw.ihwRows (t .settings) (t .packet) (isThree (t .at .fsm .state)) w
 rowsAs K.IhwContinuation guessed t w = Ihw.continuationRows w
-rowsAs K.Tdh guessed t w = Tdh.tdhRows (t .settings) (t .packet) (t .internal) w
-rowsAs K.TdhAfterPacketDone guessed t w = Tdh.afterPacketDoneRows (t .settings) (t .tdh) (t .internal) w
-rowsAs K.TdhContinuation guessed t w = Tdh.continuationRows (t .settings) (t .tdh) w
-rowsAs K.DataWord guessed t w = DataWords.dataRows (t .settings) (t .seen) (t .ihw .lanes) (t .cdw) guessed w
-rowsAs K.Cdw guessed t w = DataWords.dataRows (t .settings) (t .seen) (t .ihw .lanes) (t .cdw) guessed w
+rowsAs K.Tdh guessed t w = Tdh.tdhRows (t .settings) (t .packet) (t .stored .internal) w
+rowsAs K.TdhAfterPacketDone guessed t w = Tdh.afterPacketDoneRows (t .settings) (t .stored .tdh) (t .stored .internal) w
+rowsAs K.TdhContinuation guessed t w = Tdh.continuationRows (t .settings) (t .stored .tdh) w
+rowsAs K.DataWord guessed t w = DataWords.dataRows (t .settings) (t .at .seen) (t .stored .ihw .lanes) (t .stored .cdw) guessed w
+rowsAs K.Cdw guessed t w = DataWords.dataRows (t .settings) (t .at .seen) (t .stored .ihw .lanes) (t .stored .cdw) guessed w
 rowsAs K.Tdt guessed t w = Tdt.tdtRows (t .settings) (t .frame .live) w
 rowsAs K.Ddw0 guessed t w = Ddw.ddw0Rows (t .settings) (t .packet) guessed w
 
@@ -50,7 +50,7 @@ rowsOf t a w = rowsAs (a .word) (a .guessed) t w
 
 -- Where the next word stands, and the records that it gives.
 abbrev pub positionNow : Tracker → ℕ
-positionNow t = positionOf (t .packet) (t .count)
+positionNow t = positionOf (t .packet) (t .at .count)
 
 unfoldable pub recordsOf : Tracker → Word → List Record
 recordsOf t w = given (positionNow t) (rowsOf t (takenAs t w) w)
@@ -103,7 +103,7 @@ unfoldable pub wordCall : Tracker → List ℕ → ℕ → Outcome
 wordCall t bytes places =
     cond (eqb (length bytes) wordBytes)
     (cond (t .accepted)
-    (cond (leb maxWords (t .count)) (refused 3)
+    (cond (leb maxWords (t .at .count)) (refused 3)
     (cond (exceed (recordsOf t (wordOf bytes)) places) (refused 4) (takenOf t (wordOf bytes))))
     (refused 2))
     (refused 1)

@@ -27,24 +27,27 @@ use records::Written;
 use stored::Frame;
 use stored::FrameTold;
 use stored::InternalTdh;
+use stored::Stored;
 use stored::StoredCdw;
 use stored::StoredIhw;
 use stored::StoredTdh;
 use words::FromBuf;
 use words::Word;
 
+// Where in the words the tracker is: the state, how many of the packet's words were taken, and whether data was among them.
+pub struct At {
+    pub fsm: ItsPayloadFsmContinuous,
+    pub count: u16,
+    pub seen: bool,
+}
+
 // All that is kept from one call to the next. What is absent is all zeros.
 pub struct Tracker {
     pub settings: Settings,
     pub accepted: bool,
     pub packet: Packet,
-    pub fsm: ItsPayloadFsmContinuous,
-    pub count: u16,
-    pub seen: bool,
-    pub ihw: StoredIhw,
-    pub tdh: StoredTdh,
-    pub internal: InternalTdh,
-    pub cdw: StoredCdw,
+    pub at: At,
+    pub stored: Stored,
     pub frame: Frame,
 }
 
@@ -104,24 +107,30 @@ fn rows_of(t: Tracker, a: Advanced, word: Word) -> [Row; MOST_RECORDS]
     let kind = a.word;
     match kind {
         ItsPayloadWord::Ihw => {
-            let fsm = t.fsm;
+            let fsm = t.at.fsm;
             let state = fsm.state;
             let three = state.is_three();
             validators::ihw::check_at_initial_ihw(t.settings, t.packet, three, word)
         }
         ItsPayloadWord::IhwContinuation => validators::ihw::check_continuation(word),
         ItsPayloadWord::Tdh => {
-            tdh_validator::check_tdh_no_continuation(t.settings, t.packet, t.internal, word)
+            tdh_validator::check_tdh_no_continuation(t.settings, t.packet, t.stored.internal, word)
         }
         ItsPayloadWord::TdhAfterPacketDone => {
-            tdh_validator::check_after_tdt_packet_done_true(t.settings, t.tdh, t.internal, word)
+            tdh_validator::check_after_tdt_packet_done_true(
+                t.settings,
+                t.stored.tdh,
+                t.stored.internal,
+                word,
+            )
         }
         ItsPayloadWord::TdhContinuation => {
-            tdh_validator::check_continuation(t.settings, t.tdh, word)
+            tdh_validator::check_continuation(t.settings, t.stored.tdh, word)
         }
         ItsPayloadWord::DataWord | ItsPayloadWord::Cdw => {
-            let lanes = t.ihw.lanes;
-            validators::data_words::check(t.settings, t.seen, lanes, t.cdw, a.guessed, word)
+            let lanes = t.stored.ihw.lanes;
+            let cdw = t.stored.cdw;
+            validators::data_words::check(t.settings, t.at.seen, lanes, cdw, a.guessed, word)
         }
         ItsPayloadWord::Tdt => validators::tdt::check(t.settings, t.frame.live, word),
         ItsPayloadWord::Ddw0 => {
@@ -156,27 +165,31 @@ impl Tracker {
                 stop: 0,
                 format: 0,
             },
-            fsm: ItsPayloadFsmContinuous::new(),
-            count: 0,
-            seen: false,
-            ihw: StoredIhw {
-                stored: false,
-                lanes: 0,
+            at: At {
+                fsm: ItsPayloadFsmContinuous::new(),
+                count: 0,
+                seen: false,
             },
-            tdh: StoredTdh {
-                stored: false,
-                trigger: 0,
-                bc: 0,
-                orbit: 0,
-            },
-            internal: InternalTdh {
-                stored: false,
-                bc: 0,
-                orbit: 0,
-            },
-            cdw: StoredCdw {
-                stored: false,
-                user: 0,
+            stored: Stored {
+                ihw: StoredIhw {
+                    stored: false,
+                    lanes: 0,
+                },
+                tdh: StoredTdh {
+                    stored: false,
+                    trigger: 0,
+                    bc: 0,
+                    orbit: 0,
+                },
+                internal: InternalTdh {
+                    stored: false,
+                    bc: 0,
+                    orbit: 0,
+                },
+                cdw: StoredCdw {
+                    stored: false,
+                    user: 0,
+                },
             },
             frame: Frame {
                 live: false,
@@ -190,7 +203,7 @@ impl Tracker {
         requires { ⌜ Good self ⌝ }
         ensures { λ r. ⌜ r ≡ positionNow self ⌝ }
     {
-        packet::position(self.packet, self.count)
+        packet::position(self.packet, self.at.count)
     }
 
     // A packet: where its words stand and what they are checked against. Refusal 5 leaves everything.
@@ -207,8 +220,8 @@ impl Tracker {
         let mut t = self;
         t.accepted = true;
         t.packet = packet;
-        t.count = 0;
-        t.seen = false;
+        t.at.count = 0;
+        t.at.seen = false;
         PacketAnswer {
             tracker: t,
             refusal: 0,
@@ -221,7 +234,12 @@ impl Tracker {
         ensures { λ r. ⌜ (r ≡ resetOf self) × Good r ⌝ }
     {
         let mut t = self;
-        t.fsm = self.fsm.reset_fsm();
+        let at = At {
+            fsm: self.at.fsm.reset_fsm(),
+            count: self.at.count,
+            seen: self.at.seen,
+        };
+        t.at = at;
         t
     }
 
@@ -236,10 +254,10 @@ impl Tracker {
         if !self.accepted {
             return refused(self, REFUSED_NO_PACKET);
         }
-        if self.count >= MAX_WORDS {
+        if self.at.count >= MAX_WORDS {
             return refused(self, REFUSED_FULL);
         }
-        let a = self.fsm.advance(word);
+        let a = self.at.fsm.advance(word);
         let rows = rows_of(self, a, word);
         let here = self.here();
         let Written::Records(n) = records::write(out, here, rows) else {

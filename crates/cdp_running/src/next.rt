@@ -1,8 +1,9 @@
-// The tracker after a word, each part by the crate stored, and what the word call tells. 01, "Records": what is stored where.
+// The tracker after a word, what is kept of it by the crate stored, and what the word call tells. 01, "Records": what is stored where.
 ghost use mathlib.Core.Path.{_≡_};
 ghost use Rattle.cdp_running.specs.Tracker.{Good};
 ghost use Rattle.cdp_running.specs.Word.{takenAnswer};
 ghost use Rattle.cdp_running.specs.Next.{nextOf};
+use crate::At;
 use crate::Taken;
 use crate::Told;
 use crate::Tracker;
@@ -26,13 +27,12 @@ impl Tracker {
             settings: settings,
             accepted: self.accepted,
             packet: packet,
-            fsm: fsm,
-            count: self.count + 1,
-            seen: is_data | self.seen,
-            ihw: stored::next::ihw(kind, word, self.ihw),
-            tdh: stored::next::tdh(kind, word, self.tdh),
-            internal: stored::next::internal(kind, word, self.internal),
-            cdw: stored::next::cdw(kind, self.seen, word, self.cdw),
+            at: At {
+                fsm: fsm,
+                count: self.at.count + 1,
+                seen: is_data | self.at.seen,
+            },
+            stored: stored::next::stored(kind, self.at.seen, word, self.stored),
             frame: stored::next::frame(settings.frames, kind, word, here, self.frame),
         }
     }

@@ -53,32 +53,10 @@ pub record Agrees (m : Met) (t u : Tracker) (c : Call) : Type 0 where
   pub same : Same (meetsAll m (tookOf t c)) (after t c) (after u c)
 
 same-accept : {m : Met} {t u : Tracker} (p : Packet) → Same m t u → Same m (acceptOf t p) (acceptOf u p)
-same-accept p s =
-    record {
-      ihw = s .ihw;
-      tdh = s .tdh;
-      internal = s .internal;
-      cdw = s .cdw;
-      is = ap (λ (x : Tracker). acceptOf x p) (s .is);
-      same-ihw = s .same-ihw;
-      same-tdh = s .same-tdh;
-      same-internal = s .same-internal;
-      same-cdw = s .same-cdw;
-    }
+same-accept p s = record { stored = s .stored; is = ap (λ (x : Tracker). acceptOf x p) (s .is); same = s .same }
 
 same-reset : {m : Met} {t u : Tracker} → Same m t u → Same m (resetOf t) (resetOf u)
-same-reset s =
-    record {
-      ihw = s .ihw;
-      tdh = s .tdh;
-      internal = s .internal;
-      cdw = s .cdw;
-      is = ap resetOf (s .is);
-      same-ihw = s .same-ihw;
-      same-tdh = s .same-tdh;
-      same-internal = s .same-internal;
-      same-cdw = s .same-cdw;
-    }
+same-reset s = record { stored = s .stored; is = ap resetOf (s .is); same = s .same }
 
 payload-alike : (m : Met) (t u : Tracker) (b : List ℕ) (places : ℕ) → Same m t u → mostRecords * (length b / 10) ≤ places
     → Both m t u b (payloadCalls t b places) (payloadCalls u b places)
@@ -119,7 +97,7 @@ call-agrees m t u (word b buffer) s h =
     at e (both-refused x) = (refl, s)
     at e (both-taken {x = x} {y = y} k g same low low′) =
         let ten = take-all 10 b (le-of-eq (taken-admitted t b (room buffer) e .ten)) in
-        ((λ i. kind (k i) (g i) ∷ []), subst (λ (l : List ℕ). Same (meets m (record { word = wordOf l; kind = x .kind; seen = t .seen })) (x .next) (y .next)) (sym ten) same)
+        ((λ i. kind (k i) (g i) ∷ []), subst (λ (l : List ℕ). Same (meets m (record { word = wordOf l; kind = x .kind; seen = t .at .seen })) (x .next) (y .next)) (sym ten) same)
 call-agrees m t u (payload b buffer) s h =
     let both = payload-alike m t u b (room buffer) s h in
     record {

@@ -9,6 +9,7 @@ use Rattle.packet.specs.Packet.{inRange}
 use Rattle.payload_fsm.specs.declared.State.{State}
 use Rattle.payload_fsm.specs.declared.State.the-variants as S
 use Rattle.records.specs.Records.{Each}
+use Rattle.stored.specs.declared.Stored.{Stored}
 use Rattle.cdp_running.specs.declared.Tracker.{Tracker}
 use Rattle.cdp_running.specs.Tracker.{Good, startOf, acceptOf, packetCall}
 use Rattle.cdp_running.proofs.Good.{good-start}
@@ -17,7 +18,7 @@ use Rattle.forgetting.specs.Calls.{Call, packet, word, payload, reset, a
 use Rattle.forgetting.specs.Forget.{AcceptedMarker, Roomy, Begins, asIhw, asInternalTdh, asFirstCdw, some, HasMet, Forgotten}
 use Rattle.forgetting.proofs.Walk.{walk-settings, run-walk, good-run, run-settings}
 use Rattle.forgetting.proofs.Marker.{Settled, marked}
-use Rattle.forgetting.proofs.Same.{Met, nothing, meets, meetsAll, Same, carried, all-same}
+use Rattle.forgetting.proofs.Same.{Met, nothing, meets, meetsAll, SameStored, Same, carried, all-same}
 use Rattle.forgetting.proofs.Alike.{Agrees, Agree, agree-more, calls-agree}
 
 -- What was met is what some word was taken as.
@@ -36,36 +37,35 @@ unfolding meetsAll some
 cdw-met m [] = sym (or-false (m .cdw))
 cdw-met m (x ∷ xs) = cdw-met (meets m x) xs ∙ or-assoc (m .cdw) (asFirstCdw x) (some asFirstCdw xs)
 
+-- With nothing met, nothing need be the same.
+none-same : {x y : Stored} → SameStored nothing x y
+unfolding nothing
+none-same =
+    record {
+      ihw = λ q. absurd (true≢false (sym q));
+      tdh = λ q. absurd (true≢false (sym q));
+      internal = λ q. absurd (true≢false (sym q));
+      cdw = λ q. absurd (true≢false (sym q));
+    }
+
 -- An accepted packet on two trackers that have settled, with equal settings.
 packet-same : (t u : Tracker) (p : Packet) → t .settings ≡ u .settings → Settled t → Settled u → Same nothing (acceptOf t p) (acceptOf u p)
-unfolding nothing
 packet-same t u p e s r =
-    let state : t .fsm .state ≡ u .fsm .state = s .state ∙ sym (r .state) in
+    let state : t .at .fsm .state ≡ u .at .fsm .state = s .state ∙ sym (r .state) in
     let frame : t .frame ≡ u .frame = s .frame ∙ sym (r .frame) in
     record {
-      ihw = u .ihw;
-      tdh = u .tdh;
-      internal = u .internal;
-      cdw = u .cdw;
+      stored = u .stored;
       is =
           λ i.
           record {
             settings = e i;
             accepted = true;
             packet = p;
-            fsm = record { state = state i };
-            count = 0;
-            seen = false;
-            ihw = u .ihw;
-            tdh = u .tdh;
-            internal = u .internal;
-            cdw = u .cdw;
+            at = record { fsm = record { state = state i }; count = 0; seen = false };
+            stored = u .stored;
             frame = frame i;
           };
-      same-ihw = λ q. absurd (true≢false (sym q));
-      same-tdh = λ q. absurd (true≢false (sym q));
-      same-internal = λ q. absurd (true≢false (sym q));
-      same-cdw = λ q. absurd (true≢false (sym q));
+      same = none-same;
     }
 
 accepted : (t : Tracker) (p : Packet) → inRange p ≡ true → packetCall t p .tracker ≡ acceptOf t p

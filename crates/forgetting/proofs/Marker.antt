@@ -22,7 +22,7 @@ use Rattle.forgetting.specs.Forget.{AcceptedMarker}
 use Rattle.forgetting.proofs.Walk.{Walk, here, accepts, takes, run-walk}
 
 pub record Settled (t : Tracker) : Type 0 where
-  pub state : t .fsm .state ≡ S.Three
+  pub state : t .at .fsm .state ≡ S.Three
   pub frame : t .frame ≡ noFrame
 
 -- Packets leave it so.
@@ -32,9 +32,9 @@ rests (accepts p r rest) e s = rests rest e (record { state = s .state; frame = 
 rests (takes w have low rest) e s = absurd (cons≢nil e)
 
 -- A TDT with packet done, where data is expected.
-settles : (t : Tracker) (d : Word) → Good (nextOf t (takenAs t d) d) → AmongData (t .fsm .state) → TdtDone d → Settled (nextOf t (takenAs t d) d)
+settles : (t : Tracker) (d : Word) → Good (nextOf t (takenAs t d) d) → AmongData (t .at .fsm .state) → TdtDone d → Settled (nextOf t (takenAs t d) d)
 settles t d g data-state done =
-    let is : takenAs t d ≡ taken K.Tdt S.Three = closes (t .fsm .state) d data-state done in
+    let is : takenAs t d ≡ taken K.Tdt S.Three = closes (t .at .fsm .state) d data-state done in
     record {
       state = ap (λ (a : Advanced). a .fsm .state) is;
       frame = at (t .settings .frames) refl is;
@@ -45,7 +45,7 @@ settles t d g data-state done =
     at false off is = g .frame .absent (g .frame .off off)
 
 -- Words, and then such a TDT as the last.
-closing : {t u : Tracker} {zs : List Word} (ws : List Word) (d : Word) → Walk t zs u → zs ≡ ws ++ (d ∷ []) → Good t → AmongData (stateAfter (t .fsm .state) ws)
+closing : {t u : Tracker} {zs : List Word} (ws : List Word) (d : Word) → Walk t zs u → zs ≡ ws ++ (d ∷ []) → Good t → AmongData (stateAfter (t .at .fsm .state) ws)
     → TdtDone d → Settled u
 unfolding stateAfter
 closing [] d here e g s done = absurd (nil≢cons e)
@@ -67,5 +67,5 @@ marked t calls g m =
     let front = m .earlier ++ c .front in
     let words = m .words ∙ ap (λ (ws : List Word). m .earlier ++ ws) (c .is) ∙ sym (append-assoc (m .earlier) (c .front) (c .last ∷ [])) in
     closing front (c .last) (run-walk t calls (m .no-reset)) words g
-    (rw (after-append (t .fsm .state) (m .earlier) (c .front)) (c .among (stateAfter (t .fsm .state) (m .earlier))))
+    (rw (after-append (t .at .fsm .state) (m .earlier) (c .front)) (c .among (stateAfter (t .at .fsm .state) (m .earlier))))
     (c .done)

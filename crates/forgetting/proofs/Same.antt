@@ -14,12 +14,9 @@ use Rattle.packet.specs.declared.Packet.{Packet}
 use Rattle.packet.specs.Packet.{maxWords}
 use Rattle.payload_fsm.specs.declared.ItsPayloadWord.{ItsPayloadWord}
 use Rattle.records.specs.Records.{Record, exceed, mostRecords}
-use Rattle.stored.specs.declared.StoredTdh.{StoredTdh}
-use Rattle.stored.specs.declared.InternalTdh.{InternalTdh}
-use Rattle.stored.specs.declared.StoredCdw.{StoredCdw}
-use Rattle.stored.specs.declared.StoredIhw.{StoredIhw}
+use Rattle.stored.specs.declared.Stored.{Stored}
 use Rattle.stored.specs.declared.FrameTold.{FrameTold}
-use Rattle.stored.specs.Stored.{nextIhw, nextTdh, nextInternal, nextCdw}
+use Rattle.stored.specs.Stored.{nextStored}
 use Rattle.stored.proofs.Replace.{ihw-replaced, tdh-replaced, internal-replaced, cdw-replaced}
 use Rattle.cdp_running.specs.declared.Tracker.{Tracker}
 use Rattle.cdp_running.specs.Next.{nextOf}
@@ -45,83 +42,64 @@ meetsAll m [] = m
 meetsAll m (x ∷ xs) = meetsAll (meets m x) xs
 
 -- A tracker with other things stored.
-abbrev pub storing : Tracker → StoredIhw → StoredTdh → InternalTdh → StoredCdw → Tracker
-storing t ihw tdh internal cdw =
-    record {
-      settings = t .settings;
-      accepted = t .accepted;
-      packet = t .packet;
-      fsm = t .fsm;
-      count = t .count;
-      seen = t .seen;
-      ihw = ihw;
-      tdh = tdh;
-      internal = internal;
-      cdw = cdw;
-      frame = t .frame;
-    }
+abbrev pub storing : Tracker → Stored → Tracker
+storing t stored =
+    record { settings = t .settings; accepted = t .accepted; packet = t .packet; at = t .at; stored = stored; frame = t .frame }
+
+pub record SameStored (m : Met) (x y : Stored) : Type 0 where
+  pub ihw : m .ihw ≡ true → x .ihw ≡ y .ihw
+  pub tdh : m .internal ≡ true → x .tdh ≡ y .tdh
+  pub internal : m .internal ≡ true → x .internal ≡ y .internal
+  pub cdw : m .cdw ≡ true → x .cdw ≡ y .cdw
 
 pub record Same (m : Met) (t u : Tracker) : Type 0 where
-  pub ihw : StoredIhw
-  pub tdh : StoredTdh
-  pub internal : InternalTdh
-  pub cdw : StoredCdw
-  pub is : storing t ihw tdh internal cdw ≡ u
-  pub same-ihw : m .ihw ≡ true → t .ihw ≡ ihw
-  pub same-tdh : m .internal ≡ true → t .tdh ≡ tdh
-  pub same-internal : m .internal ≡ true → t .internal ≡ internal
-  pub same-cdw : m .cdw ≡ true → t .cdw ≡ cdw
+  pub stored : Stored
+  pub is : storing t stored ≡ u
+  pub same : SameStored m (t .stored) stored
 
 pub carried : {m : Met} {t t′ u u′ : Tracker} → t ≡ t′ → u ≡ u′ → Same m t′ u′ → Same m t u
 carried e e′ s = rw (e, e′) s
 
 -- The second tracker, as the first with the second's things.
 abbrev pub other : {m : Met} {t u : Tracker} → Same m t u → Tracker
-other {t = t} s = storing t (s .ihw) (s .tdh) (s .internal) (s .cdw)
+other {t = t} s = storing t (s .stored)
 
 pub itself : {m : Met} {t u : Tracker} (s : Same m t u) → Same m t (other s)
-itself s =
-    record {
-      ihw = s .ihw;
-      tdh = s .tdh;
-      internal = s .internal;
-      cdw = s .cdw;
-      is = refl;
-      same-ihw = s .same-ihw;
-      same-tdh = s .same-tdh;
-      same-internal = s .same-internal;
-      same-cdw = s .same-cdw;
-    }
+itself s = record { stored = s .stored; is = refl; same = s .same }
 
 -- With all met they are the same.
 pub all-same : {m : Met} {t u : Tracker} → Same m t u → m .ihw ≡ true → m .internal ≡ true → m .cdw ≡ true → t ≡ u
 all-same {t = t} s i n c =
-    (λ k. storing t (s .same-ihw i k) (s .same-tdh n k) (s .same-internal n k) (s .same-cdw c k)) ∙ s .is
+    let same = s .same in
+    (λ k. storing t (record { ihw = same .ihw i k; tdh = same .tdh n k; internal = same .internal n k; cdw = same .cdw c k })) ∙ s .is
 
 -- What a word was taken as, by a tracker.
 abbrev tookBy : Tracker → Word → Took
-tookBy t w = record { word = w; kind = takenAs t w .word; seen = t .seen }
+tookBy t w = record { word = w; kind = takenAs t w .word; seen = t .at .seen }
+
+stored-same : {m : Met} (x : Took) (old old′ : Stored) → SameStored m old old′
+    → SameStored (meets m x) (nextStored (x .kind) (x .seen) (x .word) old) (nextStored (x .kind) (x .seen) (x .word) old′)
+stored-same {m = m} x old old′ s =
+    record {
+      ihw = ihw-replaced (m .ihw) (x .kind) (x .word) (old .ihw) (old′ .ihw) (s .ihw);
+      tdh = tdh-replaced (m .internal) (x .kind) (x .word) (old .tdh) (old′ .tdh) (s .tdh);
+      internal = internal-replaced (m .internal) (x .kind) (x .word) (old .internal) (old′ .internal) (s .internal);
+      cdw = cdw-replaced (m .cdw) (x .kind) (x .word) (x .seen) (old .cdw) (old′ .cdw) (s .cdw);
+    }
 
 same-next : {m : Met} {t u : Tracker} (w : Word) → Same m t u → Same (meets m (tookBy t w)) (nextOf t (takenAs t w) w) (nextOf u (takenAs u w) w)
-same-next {m = m} {t = t} w s =
-    let k = takenAs t w .word in
+same-next {t = t} w s =
     record {
-      ihw = nextIhw k w (s .ihw);
-      tdh = nextTdh k w (s .tdh);
-      internal = nextInternal k w (s .internal);
-      cdw = nextCdw k (t .seen) w (s .cdw);
+      stored = nextStored (takenAs t w .word) (t .at .seen) w (s .stored);
       is = ap (λ (x : Tracker). nextOf x (takenAs x w) w) (s .is);
-      same-ihw = ihw-replaced (m .ihw) k w (t .ihw) (s .ihw) (s .same-ihw);
-      same-tdh = tdh-replaced (m .internal) k w (t .tdh) (s .tdh) (s .same-tdh);
-      same-internal = internal-replaced (m .internal) k w (t .internal) (s .internal) (s .same-internal);
-      same-cdw = cdw-replaced (m .cdw) k w (t .seen) (t .cdw) (s .cdw) (s .same-cdw);
+      same = stored-same (tookBy t w) (t .stored) (s .stored) (s .same);
     }
 
 -- Two outcomes of one word: refused alike, or taken alike.
 pub data Alike (m : Met) (t : Tracker) (w : Word) : Outcome → Outcome → Type 0 where
   both-refused : (n : ℕ) → Alike m t w (refused n) (refused n)
   both-taken : {x y : TakenWord} → x .kind ≡ y .kind → x .guessed ≡ y .guessed
-      → Same (meets m (record { word = w; kind = x .kind; seen = t .seen })) (x .next) (y .next) → length (x .records) ≤ mostRecords → length (y .records) ≤ mostRecords
+      → Same (meets m (record { word = w; kind = x .kind; seen = t .at .seen })) (x .next) (y .next) → length (x .records) ≤ mostRecords → length (y .records) ≤ mostRecords
       → Alike m t w (taken x) (taken y)
 
 -- Six places are room enough.
@@ -140,7 +118,7 @@ pub word-alike : {m : Met} {t u : Tracker} (b : List ℕ) (p q : ℕ) → Same m
 unfolding wordCall
 word-alike {m = m} {t = t} b p q s hp hq =
     subst (λ (x : Tracker). Alike m t (wordOf b) (wordCall t b p) (wordCall x b q)) (s .is)
-    (at (eqb (length b) 10) (t .accepted) (leb maxWords (t .count)) (exceed (recordsOf t w) p) (exceed (recordsOf (other s) w) q)
+    (at (eqb (length b) 10) (t .accepted) (leb maxWords (t .at .count)) (exceed (recordsOf t w) p) (exceed (recordsOf (other s) w) q)
     (λ e. six-fit t w p (hp (eqb-true _ _ e))) (λ e. six-fit (other s) w q (hq (eqb-true _ _ e))))
   where
     w : Word

@@ -32,7 +32,7 @@ use Rattle.forgetting.specs.Forget.{NoReset}
 pub data Walk : Tracker → List Word → Tracker → Type 0 where
   here : {t : Tracker} → Walk t [] t
   accepts : {t u : Tracker} {ws : List Word} (p : Packet) → inRange p ≡ true → Walk (acceptOf t p) ws u → Walk t ws u
-  takes : {t u : Tracker} {ws : List Word} (w : Word) → t .accepted ≡ true → t .count < maxWords → Walk (nextOf t (takenAs t w) w) ws u → Walk t (w ∷ ws) u
+  takes : {t u : Tracker} {ws : List Word} (w : Word) → t .accepted ≡ true → t .at .count < maxWords → Walk (nextOf t (takenAs t w) w) ws u → Walk t (w ∷ ws) u
 
 pub walk-good : {t u : Tracker} {ws : List Word} → Walk t ws u → Good t → Good u
 walk-good here g = g

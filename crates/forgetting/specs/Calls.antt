@@ -103,7 +103,7 @@ pub record Took : Type 0 where
 unfoldable pub tookIn : Tracker → List ℕ → List Outcome → List Took
 tookIn t bytes [] = []
 tookIn t bytes (taken x ∷ os) =
-    record { word = wordOf (take wordBytes bytes); kind = x .kind; seen = t .seen } ∷ tookIn (x .next) (drop wordBytes bytes) os
+    record { word = wordOf (take wordBytes bytes); kind = x .kind; seen = t .at .seen } ∷ tookIn (x .next) (drop wordBytes bytes) os
 tookIn t bytes (refused n ∷ os) = []
 
 abbrev pub tookOf : Tracker → Call → List Took

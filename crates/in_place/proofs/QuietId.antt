@@ -98,29 +98,24 @@ quietNext t n =
       settings = t .settings;
       accepted = t .accepted;
       packet = t .packet;
-      fsm = t .fsm;
-      count = t .count + n;
-      seen = true;
-      ihw = t .ihw;
-      tdh = t .tdh;
-      internal = t .internal;
-      cdw = t .cdw;
+      at = record { fsm = t .at .fsm; count = t .at .count + n; seen = true };
+      stored = t .stored;
       frame = t .frame;
     }
 
-module _ (t : Tracker) (w : Word) (among : amongData (t .fsm .state) ≡ true) (q : quietId (checkedLanes (t .settings .running) (t .ihw .lanes)) (idOf w) ≡ true) where
+module _ (t : Tracker) (w : Word) (among : amongData (t .at .fsm .state) ≡ true) (q : quietId (checkedLanes (t .settings .running) (t .stored .ihw .lanes)) (idOf w) ≡ true) where
   is-data : isDataId (idOf w) ≡ true
   is-data = quiet-is _ (idOf w) q .0
 
   pub quiet-silent : silent (rowsOf t (takenAs t w) w) ≡ true
-  quiet-silent = rw (as-data w is-data (t .fsm .state) among) (rows-silent (t .settings) (t .seen) (t .ihw .lanes) (t .cdw) w q)
+  quiet-silent = rw (as-data w is-data (t .at .fsm .state) among) (rows-silent (t .settings) (t .at .seen) (t .stored .ihw .lanes) (t .stored .cdw) w q)
 
   pub quiet-next : nextOf t (takenAs t w) w ≡ quietNext t 1
-  quiet-next = simp (as-data w is-data (t .fsm .state) among, no-cdw w is-data (t .seen))
+  quiet-next = simp (as-data w is-data (t .at .fsm .state) among, no-cdw w is-data (t .at .seen))
 
 -- The word call on it.
-module _ (t : Tracker) (bytes : List ℕ) (ten : length bytes ≡ 10) (have : t .accepted ≡ true) (low : t .count < maxWords) (among : amongData (t .fsm .state) ≡ true)
-    (q : quietId (checkedLanes (t .settings .running) (t .ihw .lanes)) (idOf (wordOf bytes)) ≡ true) where
+module _ (t : Tracker) (bytes : List ℕ) (ten : length bytes ≡ 10) (have : t .accepted ≡ true) (low : t .at .count < maxWords) (among : amongData (t .at .fsm .state) ≡ true)
+    (q : quietId (checkedLanes (t .settings .running) (t .stored .ihw .lanes)) (idOf (wordOf bytes)) ≡ true) where
   abbrev by : Tracker → Advanced → Outcome
   by next a =
       taken-as
@@ -140,4 +135,4 @@ module _ (t : Tracker) (bytes : List ℕ) (ten : length bytes ≡ 10) (have : t 
       let a = takenAs t w in
       silent-call t bytes ten have low (quiet-silent t w among q) places
       ∙ (λ i. by (quiet-next t w among q i) a)
-      ∙ ap (by (quietNext t 1)) (as-data w (quiet-is _ (idOf w) q .0) (t .fsm .state) among)
+      ∙ ap (by (quietNext t 1)) (as-data w (quiet-is _ (idOf w) q .0) (t .at .fsm .state) among)

@@ -24,16 +24,13 @@ use Rattle.in_place.specs.Quiet.{quietId, checkedLanes, idAt, QuietTo, P
 use Rattle.in_place.proofs.QuietId.{quietNext, quiet-silent, quiet-next}
 
 -- The invariant after quiet data words.
-pub good-quiet : (t : Tracker) (n : ℕ) → Good t → t .accepted ≡ true → t .count + n ≤ maxWords → Good (quietNext t n)
+pub good-quiet : (t : Tracker) (n : ℕ) → Good t → t .accepted ≡ true → t .at .count + n ≤ maxWords → Good (quietNext t n)
 good-quiet t n g have h =
     record {
       settings = g .settings;
       packet = g .packet;
       count = h;
-      ihw = g .ihw;
-      tdh = g .tdh;
-      internal = g .internal;
-      cdw = g .cdw;
+      stored = g .stored;
       frame = g .frame;
       ihw-present = g .ihw-present;
       tdh-present = g .tdh-present;
@@ -42,7 +39,7 @@ good-quiet t n g have h =
 
 -- The lanes whose data words are quiet.
 abbrev asked : Tracker → ℕ
-asked t = checkedLanes (t .settings .running) (t .ihw .lanes)
+asked t = checkedLanes (t .settings .running) (t .stored .ihw .lanes)
 
 module _ (b : List ℕ) (byte : (i : ℕ) → getD b i 0 < 256) where
   -- The word at a place.
@@ -50,7 +47,7 @@ module _ (b : List ℕ) (byte : (i : ℕ) → getD b i 0 < 256) where
   whole-word at h = length-take-le 10 (drop at b) (simp length-drop (omega arith))
 
   -- One quiet data word.
-  data-step : (n at : ℕ) (t : Tracker) (places : ℕ) → at + 10 ≤ length b → t .accepted ≡ true → t .count < maxWords → amongData (t .fsm .state) ≡ true
+  data-step : (n at : ℕ) (t : Tracker) (places : ℕ) → at + 10 ≤ length b → t .accepted ≡ true → t .at .count < maxWords → amongData (t .at .fsm .state) ≡ true
       → quietId (asked t) (getD b (at + 9) 0) ≡ true
       → wordsFrom (suc n) t (drop at b) places ≡ preceded 1 [] (wordsFrom n (quietNext t 1) (drop (at + 10) b) places)
   data-step n at t places fits have low among quiet =
@@ -61,7 +58,7 @@ module _ (b : List ℕ) (byte : (i : ℕ) → getD b i 0 < 256) where
       ∙ (λ i. preceded 1 [] (wordsFrom n (quiet-next t w among q i) (drop-drop 10 at b i) places))
 
   -- One more than n of them.
-  data-steps : (n m at : ℕ) (t : Tracker) (places : ℕ) → at + 10 * suc n ≤ length b → t .accepted ≡ true → t .count + suc n ≤ maxWords → amongData (t .fsm .state) ≡ true
+  data-steps : (n m at : ℕ) (t : Tracker) (places : ℕ) → at + 10 * suc n ≤ length b → t .accepted ≡ true → t .at .count + suc n ≤ maxWords → amongData (t .at .fsm .state) ≡ true
       → ((i : ℕ) → i < suc n → quietId (asked t) (idAt b at i) ≡ true)
       → wordsFrom (suc (n + m)) t (drop at b) places ≡ preceded (suc n) [] (wordsFrom m (quietNext t (suc n)) (drop (at + 10 * suc n) b) places)
   data-steps zero m at t places fits have low among each =
@@ -71,12 +68,12 @@ module _ (b : List ℕ) (byte : (i : ℕ) → getD b i 0 < 256) where
       let u = quietNext t 1 in
       let more : suc n + m ≡ suc (n + m) = suc-add n m in
       let place : at + 10 + 10 * suc n ≡ at + 10 * suc (suc n) = omega arith in
-      let many : t .count + 1 + suc n ≡ t .count + suc (suc n) = omega arith in
+      let many : t .at .count + 1 + suc n ≡ t .at .count + suc (suc n) = omega arith in
       data-step (suc n + m) at t places (omega arith) have (omega arith) among (ap (λ (j : ℕ). quietId (asked t) (getD b (j + 9) 0)) (sym (add-zero at)) ∙ each 0 (omega arith))
       ∙ ap (λ (j : ℕ). preceded 1 [] (wordsFrom j u (drop (at + 10) b) places)) more
       ∙ ap (preceded 1 []) (data-steps n m (at + 10) u places (omega arith) have (omega arith) among (λ i h. further i ∙ each (suc i) (omega arith)))
       ∙ preceded-twice 1 (suc n) [] [] (wordsFrom m (quietNext u (suc n)) (drop (at + 10 + 10 * suc n) b) places)
-      ∙ (λ i. preceded (1 + suc n) [] (wordsFrom m (record { settings = t .settings; accepted = t .accepted; packet = t .packet; fsm = t .fsm; count = many i; seen = true; ihw = t .ihw; tdh = t .tdh; internal = t .internal; cdw = t .cdw; frame = t .frame }) (drop (place i) b) places))
+      ∙ (λ i. preceded (1 + suc n) [] (wordsFrom m (record { settings = t .settings; accepted = t .accepted; packet = t .packet; at = record { fsm = t .at .fsm; count = many i; seen = true }; stored = t .stored; frame = t .frame }) (drop (place i) b) places))
       ∙ ap (λ (k : ℕ). preceded k [] (wordsFrom m (quietNext t (suc (suc n))) (drop (at + 10 * suc (suc n)) b) places)) (one-add (suc n))
     where
       further : (i : ℕ) → quietId (asked t) (idAt b (at + 10) i) ≡ quietId (asked t) (idAt b at (suc i))
@@ -85,7 +82,7 @@ module _ (b : List ℕ) (byte : (i : ℕ) → getD b i 0 < 256) where
           ap (λ (j : ℕ). quietId (asked t) (getD b j 0)) same
 
   -- A run of quiet data words: what it does to the run of the words after it, whatever room there is.
-  pub quiet-runs : (t : Tracker) (at n : ℕ) → t .accepted ≡ true → at + 10 * suc n ≤ length b → t .count + suc n ≤ maxWords → amongData (t .fsm .state) ≡ true
+  pub quiet-runs : (t : Tracker) (at n : ℕ) → t .accepted ≡ true → at + 10 * suc n ≤ length b → t .at .count + suc n ≤ maxWords → amongData (t .at .fsm .state) ≡ true
       → ((i : ℕ) → i < suc n → quietId (asked t) (idAt b at i) ≡ true) → (places : ℕ)
       → wordsFrom ((length b - at) / 10) t (drop at b) places
       ≡ preceded (suc n) [] (wordsFrom ((length b - (at + 10 * suc n)) / 10) (quietNext t (suc n)) (drop (at + 10 * suc n) b) places)

@@ -16,9 +16,7 @@ use Rattle.payload_fsm.specs.declared.Advanced.{Advanced}
 use Rattle.payload_fsm.specs.declared.State.{State}
 use Rattle.payload_fsm.specs.declared.ItsPayloadWord.{ItsPayloadWord}
 use Rattle.payload_fsm.specs.declared.ItsPayloadWord.the-variants as K
-use Rattle.stored.specs.declared.StoredTdh.{StoredTdh}
-use Rattle.stored.specs.declared.InternalTdh.{InternalTdh}
-use Rattle.stored.specs.declared.StoredCdw.{StoredCdw}
+use Rattle.stored.specs.declared.Stored.{Stored}
 use Rattle.stored.specs.Stored.{firstCdw}
 use Rattle.stored.specs.declared.Frame.{Frame}
 use Rattle.stored.specs.Kept.{noFrame}
@@ -37,29 +35,31 @@ use Rattle.in_place.proofs.QuietId.{quietNext}
 module _ (t : Tracker) (s : State) (w : Word) where
   -- State and count.
   abbrev moved : List ℕ
-  moved = sets (encodeOf t) P.reached (stateNumber s ∷ (t .count + 1) ∷ [])
+  moved = sets (encodeOf t) P.reached (stateNumber s ∷ (t .at .count + 1) ∷ [])
 
   -- Some of what is stored, all else as it was.
-  abbrev with : Bool → StoredTdh → InternalTdh → StoredCdw → Frame → List ℕ
-  with seen tdh internal cdw frame =
-      encodeOf (record { settings = t .settings; accepted = t .accepted; packet = t .packet; fsm = record { state = s }; count = t .count + 1; seen = seen; ihw = t .ihw; tdh = tdh; internal = internal; cdw = cdw; frame = frame })
+  abbrev with : Bool → Stored → Frame → List ℕ
+  with seen stored frame =
+      encodeOf (record { settings = t .settings; accepted = t .accepted; packet = t .packet; at = record { fsm = record { state = s }; count = t .at .count + 1; seen = seen }; stored = stored; frame = frame })
 
   -- What is stored under a condition is stored, or stays.
   tdh-if : (internal opens : Bool) (here : ℕ)
       → putIf opens P.frame (1 ∷ here ∷ []) (putIf internal P.internal (1 ∷ triggerBc w ∷ triggerOrbit w ∷ []) (sets moved P.tdh (1 ∷ triggerType w ∷ triggerBc w ∷ triggerOrbit w ∷ [])))
-      ≡ with (t .seen) (record { stored = true; trigger = triggerType w; bc = triggerBc w; orbit = triggerOrbit w }) (cond internal (record { stored = true; bc = triggerBc w; orbit = triggerOrbit w }) (t .internal)) (t .cdw) (cond opens (record { live = true; start = here }) (t .frame))
+      ≡ with (t .at .seen)
+      (record { ihw = t .stored .ihw; tdh = record { stored = true; trigger = triggerType w; bc = triggerBc w; orbit = triggerOrbit w }; internal = cond internal (record { stored = true; bc = triggerBc w; orbit = triggerOrbit w }) (t .stored .internal); cdw = t .stored .cdw })
+      (cond opens (record { live = true; start = here }) (t .frame))
   unfolding encodeOf
   tdh-if true true here = refl
   tdh-if true false here = refl
   tdh-if false true here = refl
   tdh-if false false here = refl
 
-  data-if : (first : Bool) → sets (putIf first P.cdw (1 ∷ userFields w ∷ []) moved) P.seen (1 ∷ []) ≡ with true (t .tdh) (t .internal) (cond first (record { stored = true; user = userFields w }) (t .cdw)) (t .frame)
+  data-if : (first : Bool) → sets (putIf first P.cdw (1 ∷ userFields w ∷ []) moved) P.seen (1 ∷ []) ≡ with true (record { ihw = t .stored .ihw; tdh = t .stored .tdh; internal = t .stored .internal; cdw = cond first (record { stored = true; user = userFields w }) (t .stored .cdw) }) (t .frame)
   unfolding encodeOf
   data-if true = refl
   data-if false = refl
 
-  tdt-if : (closes : Bool) → putIf closes P.frame (0 ∷ 0 ∷ []) moved ≡ with (t .seen) (t .tdh) (t .internal) (t .cdw) (cond closes noFrame (t .frame))
+  tdt-if : (closes : Bool) → putIf closes P.frame (0 ∷ 0 ∷ []) moved ≡ with (t .at .seen) (t .stored) (cond closes noFrame (t .frame))
   unfolding encodeOf
   tdt-if true = refl
   tdt-if false = refl
@@ -78,8 +78,8 @@ module _ (t : Tracker) (s : State) (w : Word) where
   by-kind K.Tdh g = tdh-is K.Tdh (λ l. refl) g refl
   by-kind K.TdhAfterPacketDone g = tdh-is K.TdhAfterPacketDone (λ l. refl) g refl
   by-kind K.TdhContinuation g = tdh-is K.TdhContinuation (λ l. refl) g refl
-  by-kind K.DataWord g = simp flag-back (data-if (firstCdw (t .seen) w))
-  by-kind K.Cdw g = simp flag-back (data-if (firstCdw (t .seen) w))
+  by-kind K.DataWord g = simp flag-back (data-if (firstCdw (t .at .seen) w))
+  by-kind K.Cdw g = simp flag-back (data-if (firstCdw (t .at .seen) w))
   by-kind K.Tdt g = simp flag-back (tdt-if (t .settings .frames && packetDone w))
   by-kind K.Ddw0 g = refl
 
@@ -93,7 +93,7 @@ tdh-stored w l here b m n o p q r =
 
 -- One law for all kinds.
 pub stores-next : (t : Tracker) (a : Advanced) (w : Word)
-    → storesOf (a .word) w (positionNow t) (sets (encodeOf t) P.reached (stateNumber (a .fsm .state) ∷ (t .count + 1) ∷ [])) ≡ encodeOf (nextOf t a w)
+    → storesOf (a .word) w (positionNow t) (sets (encodeOf t) P.reached (stateNumber (a .fsm .state) ∷ (t .at .count + 1) ∷ [])) ≡ encodeOf (nextOf t a w)
 stores-next t a w = by-kind t (a .fsm .state) w (a .word) (a .guessed)
 
 -- The same on numbers that are a tracker's.

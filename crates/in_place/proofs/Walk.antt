@@ -103,7 +103,7 @@ module _ {a₀ b out₀ : List ℕ} where
             let s = k .good .sized in
             let r = k .going .ready in
             let q = p .quiet in
-            let room : u .count + suc n ≤ maxWords = omega (arith, q .room) in
+            let room : u .at .count + suc n ≤ maxWords = omega (arith, q .room) in
             let fits : at + 10 * suc n ≤ length b = omega (arith, q .within, place-is (suc n) e) in
             subst (λ (j : ℕ). Walk a₀ b out₀ l out j used) (sym (place-is (suc n) e))
             (at-tracker (quietNext u (suc n)) ((simp (ne-eqb (suc n) 0 (λ z. omega arith)) at (numbers-are (suc n) e)) ∙ counts a (suc n) (k .good)) (record { period = s .period; orbit = s .orbit; internal-orbit = s .internal-orbit })

@@ -49,7 +49,7 @@ pub record QuietTo (a bytes : List ℕ) (at to : ℕ) : Type 0 where
   pub to-is : to ≡ at + wordBytes * n
   pub within : to ≤ length bytes
   pub room : place a P.count + n ≤ maxWords
-  pub among : (n ≡ 0 → ⊥) → amongData (trackerIn a .fsm .state) ≡ true
+  pub among : (n ≡ 0 → ⊥) → amongData (trackerIn a .at .fsm .state) ≡ true
   pub each : (i : ℕ) → i < n → quietId (checkedLanes (isOn (place a P.running)) (place a P.lanes)) (idAt bytes at i) ≡ true
 
 -- What is told of one.

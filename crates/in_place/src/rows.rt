@@ -20,7 +20,7 @@ use words::Word;
 // Whether the word comes in the three-way state.
 fn in_three(a: &[u64]) -> bool
     requires { ⌜ GoodArray (now a) ⌝ }
-    ensures { λ r. ⌜ r ≡ isThree (trackerIn (now (a .entry)) .fsm .state) ⌝ }
+    ensures { λ r. ⌜ r ≡ isThree (trackerIn (now (a .entry)) .at .fsm .state) ⌝ }
 {
     states::state_of(a[place::STATE]).is_three()
 }

@@ -37,7 +37,7 @@ pub preceded-none : (r : Run) → preceded 0 [] r ≡ r
 preceded-none r = λ i. record { tracker = r .tracker; words = zero-add (r .words) i; records = r .records; refusal = r .refusal }
 
 -- A word that gives no record is taken, whatever room there is.
-module _ (t : Tracker) (bytes : List ℕ) (ten : length bytes ≡ 10) (have : t .accepted ≡ true) (low : t .count < maxWords)
+module _ (t : Tracker) (bytes : List ℕ) (ten : length bytes ≡ 10) (have : t .accepted ≡ true) (low : t .at .count < maxWords)
     (quiet : silent (rowsOf t (takenAs t (wordOf bytes)) (wordOf bytes)) ≡ true) where
   pub silent-call : (places : ℕ) → wordCall t bytes places
       ≡ taken
@@ -54,7 +54,7 @@ module _ (t : Tracker) (bytes : List ℕ) (ten : length bytes ≡ 10) (have : t 
       let none = unheard (positionNow t) (rowsOf t (takenAs t (wordOf bytes)) (wordOf bytes)) quiet in
       simp (eq-eqb _ _ ten, have, lt-leb _ _ low, none, le-ltb places 0 (omega arith))
 
-pub silent-step : (n : ℕ) (t : Tracker) (b : List ℕ) (places : ℕ) → length (take 10 b) ≡ 10 → t .accepted ≡ true → t .count < maxWords
+pub silent-step : (n : ℕ) (t : Tracker) (b : List ℕ) (places : ℕ) → length (take 10 b) ≡ 10 → t .accepted ≡ true → t .at .count < maxWords
     → silent (rowsOf t (takenAs t (wordOf (take 10 b))) (wordOf (take 10 b))) ≡ true
     → wordsFrom (suc n) t b places ≡ preceded 1 [] (wordsFrom n (nextOf t (takenAs t (wordOf (take 10 b))) (wordOf (take 10 b))) (drop 10 b) places)
 silent-step n t b places ten have low quiet =

@@ -28,7 +28,7 @@ use Rattle.report.specs.File.{settings, AllAccepted}
 -- A tracker that still takes so many words of its packet.
 record Takes (t : Tracker) (left : ℕ) : Type 0 where
   accepted : 1 ≤ left → t .accepted ≡ true
-  room : t .count + left ≤ 4096
+  room : t .at .count + left ≤ 4096
 
 packet-accepted : (t : Tracker) (p : Packet) → inRange p ≡ true → (packetCall t p .refusal ≡ 0) × (packetCall t p .tracker ≡ acceptOf t p)
 unfolding packetCall

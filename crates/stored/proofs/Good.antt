@@ -17,27 +17,47 @@ use Rattle.stored.specs.declared.StoredIhw.{StoredIhw}
 use Rattle.stored.specs.declared.StoredTdh.{StoredTdh}
 use Rattle.stored.specs.declared.InternalTdh.{InternalTdh}
 use Rattle.stored.specs.declared.StoredCdw.{StoredCdw}
+use Rattle.stored.specs.declared.Stored.{Stored}
 use Rattle.stored.specs.declared.Frame.{Frame}
-use Rattle.stored.specs.Kept.{GoodIhw, GoodTdh, GoodInternal, GoodCdw, GoodFrame}
-use Rattle.stored.specs.Stored.{nextIhw, nextTdh, nextInternal, firstCdw, nextCdw, opens, closes, nextFrame}
+use Rattle.stored.specs.Kept.{noStored, GoodIhw, GoodTdh, GoodInternal, GoodCdw, GoodStored, GoodFrame}
+use Rattle.stored.specs.Stored.{nextIhw, nextTdh, nextInternal, firstCdw, nextCdw, nextStored, opens, closes, nextFrame}
 
 clash : {A : Type 0} → true ≡ false → A
 clash e = absurd (true≢false e)
 
 -- Each stored thing after a word.
-pub good-ihw : (kind : ItsPayloadWord) (w : Word) (old : StoredIhw) → GoodIhw old → GoodIhw (nextIhw kind w old)
+good-ihw : (kind : ItsPayloadWord) (w : Word) (old : StoredIhw) → GoodIhw old → GoodIhw (nextIhw kind w old)
 good-ihw kind w old g = choice GoodIhw (isIhw kind) (record { lanes = bits-below 27 0 w; absent = λ e. clash e }) g
 
-pub good-tdh : (kind : ItsPayloadWord) (w : Word) (old : StoredTdh) → GoodTdh old → GoodTdh (nextTdh kind w old)
+good-tdh : (kind : ItsPayloadWord) (w : Word) (old : StoredTdh) → GoodTdh old → GoodTdh (nextTdh kind w old)
 good-tdh kind w old g = choice GoodTdh (isTdh kind) (record { trigger = bits-below 11 0 w; bc = bits-below 27 16 w; absent = λ e. clash e }) g
 
-pub good-internal : (kind : ItsPayloadWord) (w : Word) (old : InternalTdh) → GoodInternal old → GoodInternal (nextInternal kind w old)
+good-internal : (kind : ItsPayloadWord) (w : Word) (old : InternalTdh) → GoodInternal old → GoodInternal (nextInternal kind w old)
 good-internal kind w old g =
     choice GoodInternal (isTdh kind && eqb (internalTrigger w) 1) (record { bc = bits-below 27 16 w; absent = λ e. clash e }) g
 
-pub good-cdw : (kind : ItsPayloadWord) (seen : Bool) (w : Word) (old : StoredCdw) → GoodCdw old → GoodCdw (nextCdw kind seen w old)
+good-cdw : (kind : ItsPayloadWord) (seen : Bool) (w : Word) (old : StoredCdw) → GoodCdw old → GoodCdw (nextCdw kind seen w old)
 good-cdw kind seen w old g =
     choice GoodCdw (isData kind && firstCdw seen w) (record { user = bits-below 47 0 w; absent = λ e. clash e }) g
+
+-- All of it, at the start and after a word.
+pub good-none : GoodStored noStored
+good-none =
+    record {
+      ihw = record { lanes = omega arith; absent = λ _. refl };
+      tdh = record { trigger = omega arith; bc = omega arith; absent = λ _. refl };
+      internal = record { bc = omega arith; absent = λ _. refl };
+      cdw = record { user = omega arith; absent = λ _. refl };
+    }
+
+pub good-stored : (kind : ItsPayloadWord) (seen : Bool) (w : Word) (old : Stored) → GoodStored old → GoodStored (nextStored kind seen w old)
+good-stored kind seen w old g =
+    record {
+      ihw = good-ihw kind w (old .ihw) (g .ihw);
+      tdh = good-tdh kind w (old .tdh) (g .tdh);
+      internal = good-internal kind w (old .internal) (g .internal);
+      cdw = good-cdw kind seen w (old .cdw) (g .cdw);
+    }
 
 -- A frame opens with frames on alone.
 pub good-frame : (frames : Bool) (kind : ItsPayloadWord) (w : Word) (position : ℕ) (old : Frame) → position ≤ mostPosition → GoodFrame frames old

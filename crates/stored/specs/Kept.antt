@@ -8,6 +8,7 @@ use Rattle.stored.specs.declared.StoredIhw.{StoredIhw}
 use Rattle.stored.specs.declared.StoredTdh.{StoredTdh}
 use Rattle.stored.specs.declared.InternalTdh.{InternalTdh}
 use Rattle.stored.specs.declared.StoredCdw.{StoredCdw}
+use Rattle.stored.specs.declared.Stored.{Stored}
 use Rattle.stored.specs.declared.Frame.{Frame}
 
 -- "a presence flag beside fields": nothing stored, no frame open, all zeros.
@@ -22,6 +23,9 @@ noInternal = record { stored = false; bc = 0; orbit = 0 }
 
 abbrev pub noCdw : StoredCdw
 noCdw = record { stored = false; user = 0 }
+
+abbrev pub noStored : Stored
+noStored = record { ihw = noIhw; tdh = noTdh; internal = noInternal; cdw = noCdw }
 
 abbrev pub noFrame : Frame
 noFrame = record { live = false; start = 0 }
@@ -43,6 +47,12 @@ pub record GoodInternal (i : InternalTdh) : Type 0 where
 pub record GoodCdw (c : StoredCdw) : Type 0 where
   pub user : c .user < 2 ^ 48
   pub absent : c .stored ≡ false → c ≡ noCdw
+
+pub record GoodStored (s : Stored) : Type 0 where
+  pub ihw : GoodIhw (s .ihw)
+  pub tdh : GoodTdh (s .tdh)
+  pub internal : GoodInternal (s .internal)
+  pub cdw : GoodCdw (s .cdw)
 
 pub record GoodFrame (frames : Bool) (f : Frame) : Type 0 where
   pub start : f .start ≤ mostPosition

@@ -1,4 +1,4 @@
--- 01, "Records": what is stored at a word, each part by itself, from as few others as possible.
+-- 01, "Records": what is stored at a word, each part by itself, from as few others as possible, and all of it.
 -- Assumes nothing.
 use Prim.Native.Nat.{ℕ}
 use mathlib.Core.Bool.{Bool, true, false, cond, not, _&&_, _||_}
@@ -15,6 +15,7 @@ use Rattle.stored.specs.declared.StoredIhw.{StoredIhw}
 use Rattle.stored.specs.declared.StoredTdh.{StoredTdh}
 use Rattle.stored.specs.declared.InternalTdh.{InternalTdh}
 use Rattle.stored.specs.declared.StoredCdw.{StoredCdw}
+use Rattle.stored.specs.declared.Stored.{Stored}
 use Rattle.stored.specs.declared.Frame.{Frame}
 use Rattle.stored.specs.declared.FrameTold.{FrameTold}
 use Rattle.stored.specs.declared.FrameTold.the-variants as F
@@ -41,6 +42,16 @@ firstCdw seen w = not seen && eqb (idOf w) cdwId
 -- ".. then it is stored"
 abbrev pub nextCdw : ItsPayloadWord → Bool → Word → StoredCdw → StoredCdw
 nextCdw kind seen w old = cond (isData kind && firstCdw seen w) (record { stored = true; user = userFields w }) old
+
+-- All that is stored.
+abbrev pub nextStored : ItsPayloadWord → Bool → Word → Stored → Stored
+nextStored kind seen w old =
+    record {
+      ihw = nextIhw kind w (old .ihw);
+      tdh = nextTdh kind w (old .tdh);
+      internal = nextInternal kind w (old .internal);
+      cdw = nextCdw kind seen w (old .cdw);
+    }
 
 -- "Data is then seen."
 abbrev pub nextSeen : ItsPayloadWord → Bool → Bool

@@ -28,6 +28,14 @@ pub struct StoredCdw {
     pub user: u64,
 }
 
+// What is stored of the words before.
+pub struct Stored {
+    pub ihw: StoredIhw,
+    pub tdh: StoredTdh,
+    pub internal: InternalTdh,
+    pub cdw: StoredCdw,
+}
+
 // Whether a frame is open, and where it started.
 pub struct Frame {
     pub live: bool,

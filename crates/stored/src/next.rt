@@ -1,10 +1,11 @@
-// What is kept after a word, each part by itself, and what is told of the frame and the lanes. 01, "Records": what is stored where. in_place stores the same
-// by kind.
+// What is kept after a word, each part by itself and what is stored together, and what is told of the frame and the lanes. 01, "Records": what is stored
+// where. in_place stores the same by kind.
 ghost use mathlib.Core.Path.{_≡_};
-ghost use Rattle.stored.specs.Stored.{nextIhw, nextTdh, nextInternal, firstCdw, nextCdw, opens, closes, nextFrame, frameTold, lanesTold};
+ghost use Rattle.stored.specs.Stored.{nextIhw, nextTdh, nextInternal, firstCdw, nextCdw, nextStored, opens, closes, nextFrame, frameTold, lanesTold};
 use crate::Frame;
 use crate::FrameTold;
 use crate::InternalTdh;
+use crate::Stored;
 use crate::StoredCdw;
 use crate::StoredIhw;
 use crate::StoredTdh;
@@ -15,7 +16,7 @@ use words::ihw::Ihw;
 use words::tdh::Tdh;
 use words::tdt::Tdt;
 
-pub fn ihw(kind: ItsPayloadWord, word: Word, old: StoredIhw) -> StoredIhw
+fn ihw(kind: ItsPayloadWord, word: Word, old: StoredIhw) -> StoredIhw
     ensures { λ r. ⌜ r ≡ nextIhw kind word old ⌝ }
 {
     if kind.is_ihw() {
@@ -29,7 +30,7 @@ pub fn ihw(kind: ItsPayloadWord, word: Word, old: StoredIhw) -> StoredIhw
     }
 }
 
-pub fn tdh(kind: ItsPayloadWord, word: Word, old: StoredTdh) -> StoredTdh
+fn tdh(kind: ItsPayloadWord, word: Word, old: StoredTdh) -> StoredTdh
     ensures { λ r. ⌜ r ≡ nextTdh kind word old ⌝ }
 {
     if kind.is_tdh() {
@@ -45,7 +46,7 @@ pub fn tdh(kind: ItsPayloadWord, word: Word, old: StoredTdh) -> StoredTdh
     }
 }
 
-pub fn internal(kind: ItsPayloadWord, word: Word, old: InternalTdh) -> InternalTdh
+fn internal(kind: ItsPayloadWord, word: Word, old: InternalTdh) -> InternalTdh
     ensures { λ r. ⌜ r ≡ nextInternal kind word old ⌝ }
 {
     let tdh = Tdh { word: word };
@@ -70,7 +71,7 @@ pub fn is_first_cdw(seen: bool, word: Word) -> bool
     !seen & (id == Cdw::ID)
 }
 
-pub fn cdw(kind: ItsPayloadWord, seen: bool, word: Word, old: StoredCdw) -> StoredCdw
+fn cdw(kind: ItsPayloadWord, seen: bool, word: Word, old: StoredCdw) -> StoredCdw
     ensures { λ r. ⌜ r ≡ nextCdw kind seen word old ⌝ }
 {
     let is_data = kind.is_data();
@@ -83,6 +84,18 @@ pub fn cdw(kind: ItsPayloadWord, seen: bool, word: Word, old: StoredCdw) -> Stor
         }
     } else {
         old
+    }
+}
+
+// All that is stored.
+pub fn stored(kind: ItsPayloadWord, seen: bool, word: Word, old: Stored) -> Stored
+    ensures { λ r. ⌜ r ≡ nextStored kind seen word old ⌝ }
+{
+    Stored {
+        ihw: ihw(kind, word, old.ihw),
+        tdh: tdh(kind, word, old.tdh),
+        internal: internal(kind, word, old.internal),
+        cdw: cdw(kind, seen, word, old.cdw),
     }
 }
 

@@ -74,17 +74,14 @@ bare t = packetBlank (t .packet) && blank t
 
 pub tests-good : (t : Tracker) → isGood t ≡ true → Good t × Sized t
 tests-good t e =
-    let (settings, (packet, (count, (ihw, (tdh, (internal, (cdw, (frame, (present, fresh))))))))) = simp parts at e in
+    let (settings, (packet, (count, ((ihw, (tdh, (internal, (cdw, frame)))), (present, fresh))))) = simp parts at e in
     let period = kept (t .settings .periodic) (t .settings .period) (settings .1 .absent) in
     let same : t .settings ≡ settingsOf (t .settings) = λ j. record { running = t .settings .running; frames = t .settings .frames; periodic = t .settings .periodic; period = period j; rule = t .settings .rule } in (
       record {
         settings = settings .1;
         packet = simp tests packet;
         count = count;
-        ihw = ihw;
-        tdh = tdh .1;
-        internal = internal .1;
-        cdw = cdw;
+        stored = record { ihw = ihw; tdh = tdh .1; internal = internal .1; cdw = cdw };
         frame = frame;
         ihw-present = present .0;
         tdh-present = present .1;
@@ -96,13 +93,8 @@ tests-good t e =
               settings = same j;
               accepted = o j;
               packet = packet j;
-              fsm = record { state = state j };
-              count = count j;
-              seen = seen j;
-              ihw = ihw .absent no-ihw j;
-              tdh = tdh .1 .absent no-tdh j;
-              internal = internal .1 .absent no-internal j;
-              cdw = cdw .absent no-cdw j;
+              at = record { fsm = record { state = state j }; count = count j; seen = seen j };
+              stored = record { ihw = ihw .absent no-ihw j; tdh = tdh .1 .absent no-tdh j; internal = internal .1 .absent no-internal j; cdw = cdw .absent no-cdw j };
               frame = frame .absent no-frame j;
             };
       },
@@ -113,4 +105,4 @@ pub good-tests : (t : Tracker) → Good t → Sized t → isGood t ≡ true
 good-tests t g s =
     let range = simp tests at (g .packet) in
     let fresh : t .accepted ≡ false → bare t ≡ true = λ o. ap bare (g .fresh o) in
-    simp parts ((s .period, g .settings), (range, (g .count, (g .ihw, ((s .orbit, g .tdh), ((s .internal-orbit, g .internal), (g .cdw, (g .frame, ((g .ihw-present, g .tdh-present), simp parts at fresh)))))))))
+    simp parts ((s .period, g .settings), (range, (g .count, ((g .stored .ihw, ((s .orbit, g .stored .tdh), ((s .internal-orbit, g .stored .internal), (g .stored .cdw, g .frame)))), ((g .ihw-present, g .tdh-present), simp parts at fresh)))))

@@ -79,7 +79,7 @@ module _ (t : Tracker) where
 
   state-back-low : place (encodeOf t) P.state ≤ 6
   unfolding encodeOf
-  state-back-low = state-low (t .fsm .state)
+  state-back-low = state-low (t .at .fsm .state)
 
   long-back : length (encodeOf t) ≡ size
   unfolding encodeOf

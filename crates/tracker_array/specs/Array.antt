@@ -16,7 +16,9 @@ use Rattle.stored.specs.declared.StoredTdh.{StoredTdh}
 use Rattle.stored.specs.declared.InternalTdh.{InternalTdh}
 use Rattle.stored.specs.declared.StoredCdw.{StoredCdw}
 use Rattle.stored.specs.declared.StoredIhw.{StoredIhw}
+use Rattle.stored.specs.declared.Stored.{Stored}
 use Rattle.stored.specs.declared.Frame.{Frame}
+use Rattle.cdp_running.specs.declared.At.{At}
 use Rattle.cdp_running.specs.declared.Tracker.{Tracker}
 use Rattle.cdp_running.specs.Tracker.{Good}
 
@@ -78,18 +80,21 @@ cdwNumbers c = flag (c .stored) ∷ c .user ∷ []
 abbrev pub frameNumbers : Frame → List ℕ
 frameNumbers f = flag (f .live) ∷ f .start ∷ []
 
--- The mark, the settings, whether a packet was accepted, the packet, and state, count and "data seen".
-abbrev pub firstNumbers : Settings → Bool → Packet → State → ℕ → Bool → List ℕ
-firstNumbers settings accepted packet state count seen =
-    (mark ∷ [])
-    ++ (settingsNumbers settings
-    ++ ((flag accepted ∷ []) ++ (packetNumbers packet ++ (stateNumber state ∷ count ∷ flag seen ∷ []))))
+-- State, count and "data seen".
+abbrev pub atNumbers : At → List ℕ
+atNumbers at = stateNumber (at .fsm .state) ∷ at .count ∷ flag (at .seen) ∷ []
 
--- What is stored.
-abbrev pub storedNumbers : StoredIhw → StoredTdh → InternalTdh → StoredCdw → Frame → List ℕ
-storedNumbers ihw tdh internal cdw frame =
-    ihwNumbers ihw
-    ++ (tdhNumbers tdh ++ (internalNumbers internal ++ (cdwNumbers cdw ++ frameNumbers frame)))
+-- The mark, the settings, whether a packet was accepted, the packet, and where in it the tracker is.
+abbrev pub firstNumbers : Settings → Bool → Packet → At → List ℕ
+firstNumbers settings accepted packet at =
+    (mark ∷ [])
+    ++ (settingsNumbers settings ++ ((flag accepted ∷ []) ++ (packetNumbers packet ++ atNumbers at)))
+
+-- What is stored, and the frame.
+abbrev pub storedNumbers : Stored → Frame → List ℕ
+storedNumbers s frame =
+    ihwNumbers (s .ihw)
+    ++ (tdhNumbers (s .tdh) ++ (internalNumbers (s .internal) ++ (cdwNumbers (s .cdw) ++ frameNumbers frame)))
 
 -- Numbers, and 0 at the places after them.
 abbrev pub filled : List ℕ → List ℕ
@@ -97,15 +102,13 @@ filled numbers = numbers ++ replicate (size - length numbers) 0
 
 unfoldable pub encodeOf : Tracker → List ℕ
 encodeOf t =
-    filled
-    (firstNumbers (t .settings) (t .accepted) (t .packet) (t .fsm .state) (t .count) (t .seen)
-    ++ storedNumbers (t .ihw) (t .tdh) (t .internal) (t .cdw) (t .frame))
+    filled (firstNumbers (t .settings) (t .accepted) (t .packet) (t .at) ++ storedNumbers (t .stored) (t .frame))
 
 -- What fits the widths of its types and the invariant does not speak of.
 pub record Sized (t : Tracker) : Type 0 where
   pub period : t .settings .period < 2 ^ 32
-  pub orbit : t .tdh .orbit < 2 ^ 32
-  pub internal-orbit : t .internal .orbit < 2 ^ 32
+  pub orbit : t .stored .tdh .orbit < 2 ^ 32
+  pub internal-orbit : t .stored .internal .orbit < 2 ^ 32
 
 -- Which numbers are a tracker's: those of a tracker that meets its invariant, which the start and every call leave met, and the widths of its types.
 pub record IsTracker (a : List ℕ) (t : Tracker) : Type 0 where

@@ -15,6 +15,7 @@ use Rattle.stored.specs.declared.StoredTdh.{StoredTdh}
 use Rattle.stored.specs.declared.InternalTdh.{InternalTdh}
 use Rattle.stored.specs.declared.StoredCdw.{StoredCdw}
 use Rattle.stored.specs.declared.StoredIhw.{StoredIhw}
+use Rattle.stored.specs.declared.Stored.{Stored}
 use Rattle.stored.specs.declared.Frame.{Frame}
 use Rattle.cdp_running.specs.declared.Tracker.{Tracker}
 use Rattle.cdp_running.specs.Tracker.{pastIhw, pastTdh}
@@ -65,6 +66,9 @@ internalIn a = record { stored = isOn (place a P.internal); bc = place a P.inter
 abbrev pub cdwIn : List ℕ → StoredCdw
 cdwIn a = record { stored = isOn (place a P.cdw); user = place a P.cdwUser }
 
+abbrev pub storedIn : List ℕ → Stored
+storedIn a = record { ihw = ihwIn a; tdh = tdhIn a; internal = internalIn a; cdw = cdwIn a }
+
 abbrev pub frameIn : List ℕ → Frame
 frameIn a = record { live = isOn (place a P.live); start = place a P.start }
 
@@ -74,13 +78,8 @@ trackerIn a =
       settings = settingsIn a;
       accepted = isOn (place a P.accepted);
       packet = packetIn a;
-      fsm = record { state = stateOf (place a P.state) };
-      count = place a P.count;
-      seen = isOn (place a P.seen);
-      ihw = ihwIn a;
-      tdh = tdhIn a;
-      internal = internalIn a;
-      cdw = cdwIn a;
+      at = record { fsm = record { state = stateOf (place a P.state) }; count = place a P.count; seen = isOn (place a P.seen) };
+      stored = storedIn a;
       frame = frameIn a;
     }
 
@@ -126,9 +125,13 @@ cdwGood c = ltb (c .user) (2 ^ 48) && (c .stored || eqb (c .user) 0)
 abbrev pub frameGood : Bool → Frame → Bool
 frameGood frames f = leb (f .start) mostPosition && ((f .live || eqb (f .start) 0) && (frames || not (f .live)))
 
+abbrev pub storedGood : Bool → Stored → Frame → Bool
+storedGood frames s f =
+    ihwGood (s .ihw) && (tdhGood (s .tdh) && (internalGood (s .internal) && (cdwGood (s .cdw) && frameGood frames f)))
+
 -- An IHW is stored outside the start state, and a TDH wherever a previous one is read.
-abbrev pub present : State → StoredIhw → StoredTdh → Bool
-present s i h = (not (pastIhw s) || i .stored) && (not (pastTdh s) || h .stored)
+abbrev pub present : State → Stored → Bool
+present state s = (not (pastIhw state) || s .ihw .stored) && (not (pastTdh state) || s .tdh .stored)
 
 -- No packet, and the rest as the start gave it, but for the settings.
 abbrev pub packetBlank : Packet → Bool
@@ -148,23 +151,19 @@ inStart S.CTdh = false
 
 abbrev pub blank : Tracker → Bool
 blank t =
-    inStart (t .fsm .state)
-    && (eqb (t .count) 0
-    && (not (t .seen)
-    && (not (t .ihw .stored)
-    && (not (t .tdh .stored) && (not (t .internal .stored) && (not (t .cdw .stored) && not (t .frame .live)))))))
+    inStart (t .at .fsm .state)
+    && (eqb (t .at .count) 0
+    && (not (t .at .seen)
+    && (not (t .stored .ihw .stored)
+    && (not (t .stored .tdh .stored) && (not (t .stored .internal .stored) && (not (t .stored .cdw .stored) && not (t .frame .live)))))))
 
 abbrev pub isGood : Tracker → Bool
 isGood t =
     settingsGood (t .settings)
     && (inRange (t .packet)
-    && (leb (t .count) maxWords
-    && (ihwGood (t .ihw)
-    && (tdhGood (t .tdh)
-    && (internalGood (t .internal)
-    && (cdwGood (t .cdw)
-    && (frameGood (t .settings .frames) (t .frame)
-    && (present (t .fsm .state) (t .ihw) (t .tdh) && (t .accepted || (packetBlank (t .packet) && blank t))))))))))
+    && (leb (t .at .count) maxWords
+    && (storedGood (t .settings .frames) (t .stored) (t .frame)
+    && (present (t .at .fsm .state) (t .stored) && (t .accepted || (packetBlank (t .packet) && blank t))))))
 
 -- The length, the form, one of the seven states, and the invariant.
 unfoldable pub isTracker : List ℕ → Bool

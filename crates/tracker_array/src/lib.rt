@@ -40,9 +40,7 @@ pub fn encode(t: Tracker, a: &mut [u64])
     if a.len() != SIZE {
         return;
     }
-    let fsm = t.fsm;
-    let state = fsm.state;
     write::rest(a);
-    write::first(t.settings, t.accepted, t.packet, state, t.count, t.seen, a);
-    write::stored(t.ihw, t.tdh, t.internal, t.cdw, t.frame, a);
+    write::first(t.settings, t.accepted, t.packet, t.at, a);
+    write::stored(t.stored, t.frame, a);
 }

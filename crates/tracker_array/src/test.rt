@@ -7,7 +7,7 @@ ghost use lib.ListN.{length};
 ghost use Rattle.packet.specs.Packet.{inRange, maxWords};
 ghost use Rattle.tracker_array.specs.Array.{size, isOn};
 ghost use Rattle.tracker_array.specs.Place as P;
-ghost use Rattle.tracker_array.specs.Read.{place, settingsIn, packetIn, ihwIn, tdhIn, internalIn, cdwIn, frameIn, trackerIn, flagsFit, zerosFrom, inForm, settingsGood, ihwGood, tdhGood, internalGood, cdwGood, frameGood, present, isGood};
+ghost use Rattle.tracker_array.specs.Read.{place, settingsIn, packetIn, ihwIn, tdhIn, internalIn, cdwIn, storedIn, frameIn, trackerIn, flagsFit, zerosFrom, inForm, settingsGood, ihwGood, tdhGood, internalGood, cdwGood, frameGood, storedGood, present, isGood};
 ghost use Rattle.tracker_array.specs.Good.{InForm};
 use crate::MARK;
 use crate::SIZE;
@@ -141,7 +141,7 @@ fn came_good(a: &[u64]) -> bool
 // What is stored.
 fn stored_good(a: &[u64]) -> bool
     requires { ⌜ InForm (now a) ⌝ }
-    ensures { λ r. ⌜ r ≡ (ihwGood (ihwIn (now (a .entry))) && (tdhGood (tdhIn (now (a .entry))) && (internalGood (internalIn (now (a .entry))) && (cdwGood (cdwIn (now (a .entry))) && frameGood (settingsIn (now (a .entry)) .frames) (frameIn (now (a .entry))))))) ⌝ }
+    ensures { λ r. ⌜ r ≡ storedGood (settingsIn (now (a .entry)) .frames) (storedIn (now (a .entry))) (frameIn (now (a .entry))) ⌝ }
 {
     if !ihw(a) {
         return false;
@@ -161,7 +161,7 @@ fn stored_good(a: &[u64]) -> bool
 // The state is one of the seven: 0 where no IHW is stored, and 0 or 1 where no TDH is.
 fn present(a: &[u64]) -> bool
     requires { ⌜ InForm (now a) ⌝ }
-    ensures { λ r. ⌜ r ≡ (leb (place (now (a .entry)) P.state) 6 && present (trackerIn (now (a .entry)) .fsm .state) (ihwIn (now (a .entry))) (tdhIn (now (a .entry)))) ⌝ }
+    ensures { λ r. ⌜ r ≡ (leb (place (now (a .entry)) P.state) 6 && present (trackerIn (now (a .entry)) .at .fsm .state) (storedIn (now (a .entry)))) ⌝ }
 {
     let state = a[place::STATE];
     fits(a[place::IHW], 6, state) & (state <= 1 + 5 * a[place::TDH])

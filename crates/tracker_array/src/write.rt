@@ -4,7 +4,7 @@ ghost use Prim.Native.Nat.{_+_, _-_, _≤_};
 ghost use mathlib.Core.List.{[], _∷_};
 ghost use lib.ListN.{length, replicate};
 ghost use lib.Seq.{sets};
-ghost use Rattle.tracker_array.specs.Array.{size, mark, flag, stateNumber, settingsNumbers, packetNumbers, tdhNumbers, internalNumbers, firstNumbers, storedNumbers};
+ghost use Rattle.tracker_array.specs.Array.{size, mark, flag, settingsNumbers, packetNumbers, tdhNumbers, internalNumbers, atNumbers, firstNumbers, storedNumbers};
 ghost use Rattle.tracker_array.specs.Place as P;
 use crate::MARK;
 use crate::SIZE;
@@ -12,13 +12,12 @@ use crate::flags::flag;
 use crate::place;
 use crate::rules;
 use crate::states;
+use cdp_running::At;
 use packet::Packet;
 use packet::Settings;
-use payload_fsm::State;
 use stored::Frame;
 use stored::InternalTdh;
-use stored::StoredCdw;
-use stored::StoredIhw;
+use stored::Stored;
 use stored::StoredTdh;
 
 fn settings(s: Settings, a: &mut [u64])
@@ -89,13 +88,15 @@ fn accepted(b: bool, a: &mut [u64])
     a[place::ACCEPTED] = flag(b);
 }
 
-fn reached(state: State, count: u16, seen: bool, a: &mut [u64])
+fn reached(at: At, a: &mut [u64])
     requires { ⌜ length (now a) ≡ size ⌝ }
-    ensures { λ _. ⌜ now (a .exit) ≡ sets (now (a .entry)) P.reached (stateNumber state ∷ count ∷ flag seen ∷ []) ⌝ }
+    ensures { λ _. ⌜ now (a .exit) ≡ sets (now (a .entry)) P.reached (atNumbers at) ⌝ }
 {
+    let fsm = at.fsm;
+    let state = fsm.state;
     a[place::STATE] = states::state_number(state);
-    a[place::COUNT] = count as u64;
-    a[place::SEEN] = flag(seen);
+    a[place::COUNT] = at.count as u64;
+    a[place::SEEN] = flag(at.seen);
 }
 
 // Nothing where nothing stands.
@@ -110,39 +111,24 @@ pub(crate) fn rest(a: &mut [u64])
     }
 }
 
-pub(crate) fn first(
-    s: Settings,
-    b: bool,
-    p: Packet,
-    state: State,
-    count: u16,
-    seen: bool,
-    a: &mut [u64],
-)
+pub(crate) fn first(s: Settings, b: bool, p: Packet, at: At, a: &mut [u64])
     requires { ⌜ length (now a) ≡ size ⌝ }
-    ensures { λ _. ⌜ now (a .exit) ≡ sets (now (a .entry)) P.mark (firstNumbers s b p state count seen) ⌝ }
+    ensures { λ _. ⌜ now (a .exit) ≡ sets (now (a .entry)) P.mark (firstNumbers s b p at) ⌝ }
 {
     mark(a);
     settings(s, a);
     accepted(b, a);
     packet(p, a);
-    reached(state, count, seen, a);
+    reached(at, a);
 }
 
-pub(crate) fn stored(
-    ihw: StoredIhw,
-    h: StoredTdh,
-    i: InternalTdh,
-    cdw: StoredCdw,
-    frame: Frame,
-    a: &mut [u64],
-)
+pub(crate) fn stored(s: Stored, frame: Frame, a: &mut [u64])
     requires { ⌜ length (now a) ≡ size ⌝ }
-    ensures { λ _. ⌜ now (a .exit) ≡ sets (now (a .entry)) P.stored (storedNumbers ihw h i cdw frame) ⌝ }
+    ensures { λ _. ⌜ now (a .exit) ≡ sets (now (a .entry)) P.stored (storedNumbers s frame) ⌝ }
 {
-    held(ihw.stored, ihw.lanes as u64, place::IHW, a);
-    tdh(h, a);
-    internal(i, a);
-    held(cdw.stored, cdw.user, place::CDW, a);
+    held(s.ihw.stored, s.ihw.lanes as u64, place::IHW, a);
+    tdh(s.tdh, a);
+    internal(s.internal, a);
+    held(s.cdw.stored, s.cdw.user, place::CDW, a);
     held(frame.live, frame.start, place::LIVE, a);
 }

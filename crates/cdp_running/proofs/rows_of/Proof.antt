@@ -1,8 +1,6 @@
 -- `rows_of` meets its contract, by what the word was taken as.
 -- Assumes nothing.
 use borrow.Author.Needs.{needs}
-use mathlib.Core.Path.{sym, ap, _∙_}
-use Rattle.records.specs.Records.{padded}
 use Rattle.cdp_running.proofs.DataKinds.{data-rows}
 use Rattle.cdp_running.proofs.rows_of.Statement.{statement}
 use Rattle.cdp_running.proofs.rows_of.Tie as tie
@@ -24,8 +22,8 @@ returns-5 c = simp (c .before .enum-told5 .given .1, c .check-continuation2 .ens
 
 returns-6 : tie.Need-returns-6
 returns-6 c =
-    let s = c .before .before .args in
-    c .check .ensures ∙ ap padded (sym (data-rows (s .a .word) (s .a .guessed) (s .t) (s .word) (c .before .match .keys6)))
+    let s = c .before .before .before .args in
+    rw (data-rows (s .a .word) (s .a .guessed) (s .t) (s .word) (c .before .before .match .keys6)) (c .check .ensures)
 
 returns-7 : tie.Need-returns-7
 returns-7 c = simp (c .before .enum-told6 .given .1, c .check2 .ensures)

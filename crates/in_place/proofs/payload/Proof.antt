@@ -75,6 +75,15 @@ step-requires c κs =
     let k = walk-passed (c6 .before .before .before .before .loop .inv) (λ i. c12 .before .before .before .shared-slice-known .given i .fits) (c6 .before .pass .ensures) in
     (k .good, (c .before .before .if4 .left, word-left (k .going) (c .before .before .before .before .if3 .taken)))
 
+-- The length at the start, which the search does not reach by itself.
+same-length-3 : tie.Need-same-length-3 Inv-loop μ-loop
+same-length-3 c =
+    let c6 = c .before .before .before .before .before .before in
+    let c12 = c6 .before .before .before .before .before .before in
+    let c18 = c12 .before .before .before .before .before .before in
+    let c24 = c18 .before .before .before .before .before .before in
+    search (needs, c24 .before .pre .fits .long)
+
 returns-4 : tie.Need-returns-4 Inv-loop μ-loop
 returns-4 c =
     let c6 = c .before .before .before .before .before .before in
@@ -137,6 +146,6 @@ payload-spec =
     tie.close
     (tie.spec Inv-loop μ-loop (λ c. search needs) returns slice-read-if2 (λ c. search needs) returns-2 loop-holds pass-requires slice-read-if4
     (λ c. search needs) (λ c. search needs) (λ c. search needs) (λ c. search needs) returns-3 mul-step sub-step part-step-start
-    (λ c. search needs) step-requires (λ c. search needs) (λ c. search needs) (λ c. search needs) (λ c. search needs)
+    (λ c. search needs) step-requires (λ c. search needs) (λ c. search needs) (λ c. search needs) same-length-3
     (λ c. search needs) returns-4 mul-used add-used add-at loop-less loop-again loop-less-2 loop-again-2 (λ c. search needs)
     (λ c. search needs) (λ c. search needs) returns-5)

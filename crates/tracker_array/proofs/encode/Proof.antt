@@ -14,8 +14,8 @@ returns-2 : tie.Need-returns-2
 returns-2 c =
     let c6 = c .before .before .before .before .before .before in
     let c10 = c6 .before .before .before .before in
-    let s = c10 .before .before .before .before .before .args in
-    let long = c10 .before .before .before .if1 .left in
+    let s = c10 .before .before .before .before .args in
+    let long = c10 .before .before .if1 .left in
     simp (c .before .before .stored .ensures, c6 .first .ensures, c10 .rest .ensures) (stored-all (now (s .a)) (s .t) long) ∙ wrote (now (s .a)) (s .t) long
 
 pub encode-spec : {M : Type 1} → statement M

@@ -5,7 +5,7 @@ use Rattle.cdp_running.proofs.Tracker.after.Statement.{statement}
 use Rattle.cdp_running.proofs.Tracker.after.Tie as tie
 
 returns : tie.Need-returns
-returns c = simp (c .frame .ensures, c .before .cdw .ensures, c .before .before .internal .ensures, c .before .before .before .tdh .ensures, c .before .before .before .before .ihw .ensures, c .before .before .before .before .before .before .before .is-data .ensures, c .before .before .before .before .before .before .before .before .here .ensures)
+returns c = simp (c .frame .ensures, c .before .stored .ensures, c .before .before .before .before .is-data .ensures, c .before .before .before .before .before .here .ensures)
 
 pub after-spec : {M : Type 1} → statement M
-after-spec = tie.close (tie.spec (λ c κs. search needs) (λ c. search needs) (λ c. search needs) (λ c. search needs) (λ c. search needs) (λ c. search needs) (λ c. search needs) (λ c. search needs) returns)
+after-spec = tie.close (tie.spec (λ c κs. search needs) (λ c. search needs) (λ c. search needs) (λ c. search needs) (λ c. search needs) returns)

@@ -14,8 +14,8 @@ returns c =
 
 returns-2 : tie.Need-returns-2
 returns-2 c =
-    let s = c .before .before in
-    packet-accepted (s .args .self) (s .args .packet) (s .pre) (sym (c .before .in-range .ensures) ∙ not-false _ (c .if1 .left))
+    let s = c .before .before .before .before in
+    packet-accepted (s .args .self) (s .args .packet) (s .pre) (sym (c .before .before .before .in-range .ensures) ∙ not-false _ (c .before .before .if1 .left))
 
 pub packet-spec : {M : Type 1} → statement M
 packet-spec = tie.close (tie.spec (λ c κs. search needs) returns returns-2)

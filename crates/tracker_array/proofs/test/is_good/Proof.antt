@@ -11,7 +11,7 @@ use Rattle.words.proofs.Tests.{fails, holds}
 use Rattle.packet.specs.Packet.{inRange, maxWords}
 use Rattle.tracker_array.specs.Place as P
 use Rattle.tracker_array.specs.Array.{isOn}
-use Rattle.tracker_array.specs.Read.{place, settingsIn, packetIn, ihwIn, tdhIn, internalIn, cdwIn, frameIn, trackerIn, settingsGood, ihwGood, tdhGood, internalGood, cdwGood, frameGood, present, isGood}
+use Rattle.tracker_array.specs.Read.{place, settingsIn, packetIn, storedIn, frameIn, trackerIn, settingsGood, storedGood, present, isGood}
 use Rattle.tracker_array.proofs.Laws.{bare-good}
 use borrow.Author.Needs.{needs}
 use Rattle.tracker_array.proofs.test.is_good.Statement.{statement}
@@ -27,13 +27,13 @@ first false b false d = refl
 -- The parts in the groups that the code asks, where a packet was accepted.
 grouped : (l : List ℕ) → isOn (place l P.accepted) ≡ true
     → ((settingsGood (settingsIn l) && (inRange (packetIn l) && leb (place l P.count) maxWords))
-    && ((ihwGood (ihwIn l) && (tdhGood (tdhIn l) && (internalGood (internalIn l) && (cdwGood (cdwIn l) && frameGood (isOn (place l P.frames)) (frameIn l)))))
-    && (leb (place l P.state) 6 && present (trackerIn l .fsm .state) (ihwIn l) (tdhIn l))))
+    && (storedGood (isOn (place l P.frames)) (storedIn l) (frameIn l)
+    && (leb (place l P.state) 6 && present (trackerIn l .at .fsm .state) (storedIn l))))
     ≡ (leb (place l P.state) 6 && isGood (trackerIn l))
 grouped l have =
     let came = settingsGood (settingsIn l) && (inRange (packetIn l) && leb (place l P.count) maxWords) in
-    let kept = ihwGood (ihwIn l) && (tdhGood (tdhIn l) && (internalGood (internalIn l) && (cdwGood (cdwIn l) && frameGood (isOn (place l P.frames)) (frameIn l)))) in
-    first came kept (leb (place l P.state) 6) (present (trackerIn l .fsm .state) (ihwIn l) (tdhIn l)) ∙ simp (have, and-true, and-assoc)
+    let kept = storedGood (isOn (place l P.frames)) (storedIn l) (frameIn l) in
+    first came kept (leb (place l P.state) 6) (present (trackerIn l .at .fsm .state) (storedIn l)) ∙ simp (have, and-true, and-assoc)
 
 returns : tie.Need-returns
 returns c = c .bare .ensures ∙ bare-good (now (c .before .before .before .before .args .a)) (c .before .before .before .before .pre) (ne-eqb _ _ (c .before .if1 .taken))
