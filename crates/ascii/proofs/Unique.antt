@@ -11,7 +11,8 @@ pub puts-unique : {text buffer after after′ : List ℕ} {first second : ℕ} �
     → (first ≡ second) × (after ≡ after′)
 puts-unique p q = (unique (p .count) (q .count), unique (p .buffer-is) (q .buffer-is))
 
-pub step-unique : {State : Type 0} {p : Printer State} {s next next′ : State} {buffer after after′ : List ℕ} {first second : ℕ} → StepPost p s buffer next first after
+pub step-unique : {State : Type 0} {p : Printer State} {s next next′ : State} {buffer after after′ : List ℕ} {first second : ℕ}
+    → StepPost p s buffer next first after
     → StepPost p s buffer next′ second after′
     → (next ≡ next′) × (first ≡ second) × (after ≡ after′)
 step-unique a b =

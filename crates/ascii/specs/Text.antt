@@ -31,8 +31,8 @@ unfoldable pub decimal : ℕ → List ℕ
 decimal n = decimalIn (suc n) n
 
 -- A number and the byte after it.
-abbrev pub number : ℕ → ℕ → List ℕ
-number n byte = decimal n ++ (byte ∷ [])
+abbrev pub numeral : ℕ → ℕ → List ℕ
+numeral n byte = decimal n ++ (byte ∷ [])
 
 -- Numbers, each behind a space; and a line of a name and numbers.
 unfoldable pub spaced : List ℕ → List ℕ

@@ -2,7 +2,7 @@
 ghost use mathlib.Core.List.{_∷_};
 ghost use Prim.Native.Nat.{_+_, _*_, _≤_};
 ghost use lib.ListN.{length};
-ghost use Rattle.ascii.specs.Text.{space, decimal, number, spaced, line, mostNumber, mostLine, inRoom, Puts};
+ghost use Rattle.ascii.specs.Text.{space, decimal, numeral, spaced, line, mostNumber, mostLine, inRoom, Puts};
 
 pub const SPACE: u8 = 0x20;
 
@@ -47,7 +47,7 @@ fn put_decimal(out: &mut [u8], n: u64) -> usize
 
 // A number and the byte after it.
 pub fn put_number(out: &mut [u8], n: u64, end: u8) -> usize
-    ensures { λ r. ⌜ Puts (inRoom mostNumber (length (now (out .entry))) (number n end)) (now (out .entry)) r (now (out .exit)) ⌝ }
+    ensures { λ r. ⌜ Puts (inRoom mostNumber (length (now (out .entry))) (numeral n end)) (now (out .entry)) r (now (out .exit)) ⌝ }
     ensures { λ r. ⌜ r ≤ mostNumber ⌝ }
 {
     if out.len() < MOST_NUMBER {

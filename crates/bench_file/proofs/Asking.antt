@@ -116,12 +116,19 @@ module _ (name : Name) (Says : List ℕ → ℕ → Found → Type 0) (cursor : 
         move ! (1 ∷ []) $ frame ! $ nothing ! $ move ! (2 ∷ 0 ∷ []) $ fjoin ! $ frame ! $ done !
 
     module _ (C : Calls 𝓤 H) (Λ : Loops 𝓤 H) (fm : FmC 𝓤 H (W .laws) C) (known : Triple 𝓤 (C name) (At 𝓤 H A)) where
-      walk : Holds (hasTy (T′.mir (named 0)) mach) × WT mach → ent 𝓤 (onEntry 𝓤 H A over.signature (κ, tt) (q, tt) (d, tt) (mach ∷ [], tt)) (WpFn 𝓤 H C Λ function (mach ∷ []) Post)
+      walk : Holds (hasTy (T′.mir (named 0)) mach) × WT mach
+          → ent 𝓤 (onEntry 𝓤 H A over.signature (κ, tt) (q, tt) (d, tt) (mach ∷ [], tt)) (WpFn 𝓤 H C Λ function (mach ∷ []) Post)
       walk wt =
           qed W (raw (onEntry 𝓤 H A over.signature (κ, tt) (q, tt) (d, tt) (mach ∷ [], tt)) ∷ []) ∵ enter ! C Λ function (mach ∷ []) _ $
           alloc1 ! (λ l₀. alloc1 ! (λ l₁. alloc1 ! (λ l₂. alloc1 ! (λ l₃. alloc0 ! $ params1 ! $ pass1 ! (init ! 4 refl wt) $ pass0 ! $
           assigns ! (of-opd ! (load ! (from ! (fld ! refl (stop !))) (look-in ! 4 (sub ! 0 refl (whole !))))) (from ! (stop !)) (init ! 2 refl (tt, wt .1 .0)) $
-          assigns ! (of-opd ! (load ! (from ! (fld ! field-is (stop !))) (look-in ! 4 (sub ! k field-is (whole !))))) (from ! (stop !)) (init ! 0 refl (subst (λ (z : Val). Holds (hasTy (tyInt w64) z) × WT z) (sym (value-is d)) (tt, record { fits = low d (wt .1) }))) $
+          assigns ! (of-opd ! (load ! (from ! (fld ! field-is (stop !))) (look-in ! 4 (sub ! k field-is (whole !))))) (from ! (stop !)) (init ! 0 refl (subst (λ (z : Val). Holds (hasTy (tyInt w64) z) × WT z) (sym (value-is d)) (
+            tt,
+            record {
+              fits =
+                  low d (wt .1);
+            },
+          ))) $
           rewrite ! 0 (λ (z : Val). ‵ (fat fullShare (tyInt w64) l₃ 0 z)) (value-is d) refl $
           move ! (8 ∷ []) $ use1 W (raw (At 𝓤 H A .pre to) ⊛ ‵ (held.Own κ d)) (apart (low d (wt .1))) $ split ! $
           calls-at ! fm (At 𝓤 H A) known to (and-then ! (load ! (from ! (stop !)) (look ! 4 refl)) (and-then ! (load ! (from ! (stop !)) (look ! 2 refl)) (no-more !))) (λ u.

@@ -59,7 +59,8 @@ unfolds file n i h =
 pub passed : (file : List ℕ) (n i : ℕ) → i < n → packetRefusal file (packetPlace i) ≡ 0 → firstRefusal file (n - i) i ≡ firstRefusal file (n - (i + 1)) (i + 1)
 passed file n i h e = unfolds file n i h ∙ simp (eq-eqb (packetRefusal file (packetPlace i)) 0 e)
 
-pub stopped : (file : List ℕ) (n i : ℕ) → i < n → (packetRefusal file (packetPlace i) ≡ 0 → ⊥) → firstRefusal file (n - i) i ≡ packetRefusal file (packetPlace i)
+pub stopped : (file : List ℕ) (n i : ℕ) → i < n → (packetRefusal file (packetPlace i) ≡ 0 → ⊥) → firstRefusal file (n - i) i
+    ≡ packetRefusal file (packetPlace i)
 stopped file n i h e = unfolds file n i h ∙ simp (ne-eqb (packetRefusal file (packetPlace i)) 0 e)
 
 pub all-passed : (file : List ℕ) (n i : ℕ) → n ≤ i → firstRefusal file (n - i) i ≡ 0

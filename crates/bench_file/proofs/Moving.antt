@@ -43,7 +43,8 @@ module _ (pastOf : List ℕ → ℕ → ℕ) (cursor : FileReader → ℕ) (move
   past-clauses 𝓤 κs a = record { ghost = Unit {0}; requires = λ _. emp 𝓤; ensures = λ _ n _. fact 𝓤 (n ≡ pastOf (now (a .0)) (a .1 .0)) }
 
   abbrev pub over-clauses : {M : Type 1} (𝓤 : URA M) → Clauses 𝓤 over.ended
-  over-clauses 𝓤 κs a = record { ghost = Unit {0}; requires = λ _. emp 𝓤; ensures = λ _ r _. fact 𝓤 (r ≡ moved (a .0) (pastOf (now (a .0 .bytes)) (cursor (a .0)))) }
+  over-clauses 𝓤 κs a =
+      record { ghost = Unit {0}; requires = λ _. emp 𝓤; ensures = λ _ r _. fact 𝓤 (r ≡ moved (a .0) (pastOf (now (a .0 .bytes)) (cursor (a .0)))) }
 
   abbrev pub stayed : Stays (over.ended .signature .params) (over.ended .kept)
   stayed = (stay-none held.B yes, tt)
@@ -94,7 +95,9 @@ module _ (pastOf : List ℕ → ℕ → ℕ) (cursor : FileReader → ℕ) (move
 
     -- what a walk of the code shows, for every reader
     abbrev pub Walk : Calls 𝓤 H → Loops 𝓤 H → Fn → Type 1
-    Walk C Λ function = Holds (hasTy (T′.mir (named 0)) mach) × WT mach → ent 𝓤 (onEntry 𝓤 H A over.signature (κ, tt) (q, tt) (d, tt) (mach ∷ [], tt)) (WpFn 𝓤 H C Λ function (mach ∷ []) Post)
+    Walk C Λ function =
+        Holds (hasTy (T′.mir (named 0)) mach) × WT mach → ent 𝓤 (onEntry 𝓤 H A over.signature (κ, tt) (q, tt) (d, tt) (mach ∷ [], tt))
+        (WpFn 𝓤 H C Λ function (mach ∷ []) Post)
 
   -- code that is so walked meets the contract
   pub meets : {M : Type 1} (𝓤 : URA M) (H : Heap 𝓤) (A : Atoms 𝓤) (W : Given 𝓤 H A) (𝓣 : Tables 𝓤 H) (function : Fn)

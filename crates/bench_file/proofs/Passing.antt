@@ -103,8 +103,11 @@ module _ (name : Name) (Says : FileReader → Found → Type 0) where
     abbrev to-next : FileReader → Val → Next 𝓤 H A mem run .Ghost
     to-next r u = (((κ, tt), (q, tt), tt, (r, tt), (u ∷ [], tt)), tt)
 
-    goes-next : (r : FileReader) (u : Val) → ent 𝓤 (⋆ 𝓤 H A (‵ (held.B (κ, tt) .own r (u ∷ [])) ∷ (‵ (flft κ q) ⊛ ‵ ftrue) ∷ [])) (Next 𝓤 H A mem run .pre (to-next r u))
-    goes-next r u = qed W (‵ (held.B (κ, tt) .own r (u ∷ [])) ∷ (‵ (flft κ q) ⊛ ‵ ftrue) ∷ []) ∵ nothing ! $ move ! (1 ∷ 0 ∷ []) $ fjoin ! $ move ! (1 ∷ 0 ∷ []) $ join ! $ frame ! $ done !
+    goes-next : (r : FileReader) (u : Val)
+        → ent 𝓤 (⋆ 𝓤 H A (‵ (held.B (κ, tt) .own r (u ∷ [])) ∷ (‵ (flft κ q) ⊛ ‵ ftrue) ∷ [])) (Next 𝓤 H A mem run .pre (to-next r u))
+    goes-next r u =
+        qed W (‵ (held.B (κ, tt) .own r (u ∷ [])) ∷ (‵ (flft κ q) ⊛ ‵ ftrue) ∷ []) ∵ nothing ! $ move ! (1 ∷ 0 ∷ []) $ fjoin ! $ move !
+        (1 ∷ 0 ∷ []) $ join ! $ frame ! $ done !
 
     next-said : (r : FileReader) (t : Found) → ent 𝓤 (ensured 𝓤 H A over.ended (over-clauses 𝓤) (κ, tt) (r, tt) tt t) (fact 𝓤 (Says r t))
     next-said r t = exE 𝓤 _ (λ ws. snd∗ 𝓤 (sem 𝓤 H A (lasts over.ended (κ, tt) (r, tt) ws)) (fact 𝓤 (Says r t)))
@@ -116,10 +119,17 @@ module _ (name : Name) (Says : FileReader → Found → Type 0) where
         move ! (1 ∷ []) $ frame ! $ nothing ! $ owned ! usize (Is usize) (uint-makes 𝓤 H A W w64) m _ (refl, ok2) $ fjoin ! $ owned ! usize (Is usize) (uint-makes 𝓤 H A W w64) n _ (refl, ok) $ fjoin ! $ move ! (2 ∷ 0 ∷ []) $ fjoin ! $ frame ! $ done !
 
     module _ (C : Calls 𝓤 H) (Λ : Loops 𝓤 H) (fm : FmC 𝓤 H (W .laws) C) (known-new : Triple 𝓤 (C #reader-at) (made.New 𝓤 H A mem run)) (known-next : Triple 𝓤 (C name) (Next 𝓤 H A mem run)) where
-      walk : Is (ShrSlice (named 0) κ u8) s (v ∷ []) → ent 𝓤 (onEntry 𝓤 H A plain.signature (κ, tt) (q, tt) (s, (n, (m, tt))) at) (WpFn 𝓤 H C Λ function (v ∷ vint w64 n ∷ vint w64 m ∷ []) Post)
+      walk : Is (ShrSlice (named 0) κ u8) s (v ∷ [])
+          → ent 𝓤 (onEntry 𝓤 H A plain.signature (κ, tt) (q, tt) (s, (n, (m, tt))) at) (WpFn 𝓤 H C Λ function (v ∷ vint w64 n ∷ vint w64 m ∷ []) Post)
       walk p =
           qed W (raw (onEntry 𝓤 H A plain.signature (κ, tt) (q, tt) (s, (n, (m, tt))) at) ∷ []) ∵ enter ! C Λ function (v ∷ vint w64 n ∷ vint w64 m ∷ []) _ $
-          alloc1 ! (λ l₀. alloc1 ! (λ l₁. alloc1 ! (λ l₂. alloc1 ! (λ l₃. alloc1 ! (λ l₄. alloc0 ! $ params1 ! $ pass1 ! (init ! 6 refl (shr-slice-lawful 𝓤 H A W (named 0) κ u8 .typed s (v ∷ []) p .0)) $ pass1 ! (init ! 4 refl (tt, record { fits = ok })) $ pass1 ! (init ! 2 refl (tt, record { fits = ok2 })) $ pass0 ! $
+          alloc1 ! (λ l₀. alloc1 ! (λ l₁. alloc1 ! (λ l₂. alloc1 ! (λ l₃. alloc1 ! (λ l₄. alloc0 ! $ params1 ! $ pass1 ! (init ! 6 refl (shr-slice-lawful 𝓤 H A W (named 0) κ u8 .typed s (v ∷ []) p .0)) $ pass1 ! (init ! 4 refl (
+            tt,
+            record {
+              fits =
+                  ok;
+            },
+          )) $ pass1 ! (init ! 2 refl (tt, record { fits = ok2 })) $ pass0 ! $
           move ! (10 ∷ []) $ use1 W (raw (made.New 𝓤 H A mem run .pre to-new) ⊛ ‵ Own) (made.goes-new κ s n m 𝓤 H A mem run W q) $ split ! $
           calls-at ! fm (made.New 𝓤 H A mem run) known-new to-new (and-then ! (load ! (from ! (stop !)) (look ! 8 refl)) (and-then ! (load ! (from ! (stop !)) (look ! 6 refl)) (and-then ! (load ! (from ! (stop !)) (look ! 4 refl)) (no-more !)))) (λ u.
           use1 W (later (some (λ (r : FileReader). ((‵ (flft κ q) ⊛ ‵ ftrue) ⊛ ‵ (held.B (κ, tt) .own r (u ∷ []))) ⊛ raw (ensured 𝓤 H A new.ended (new.clauses 𝓤 H A mem run) (κ, tt) (s, (n, (m, tt))) tt r)))) (id⊢ 𝓤 _) $ await ! tt $ pick ! (λ r.
@@ -140,11 +150,18 @@ module _ (name : Name) (Says : FileReader → Found → Type 0) where
   module _ {M : Type 1} (𝓤 : URA M) (H : Heap 𝓤) (A : Atoms 𝓤) (W : Given 𝓤 H A) (mem : Memory → SProp 𝓤) (run : Routine → Fun 𝓤) where
     walks : (C : Calls 𝓤 H) (Λ : Loops 𝓤 H) → FmC 𝓤 H (W .laws) C → Triple 𝓤 (C #reader-at) (made.New 𝓤 H A mem run) → Triple 𝓤 (C name) (Next 𝓤 H A mem run)
         → Walks 𝓤 H A plain.ended stayed (WpFn 𝓤 H C Λ function) (plain-clauses 𝓤)
-    walks C Λ fm known-new known-next = walked 𝓤 H A plain.ended stayed (plain-clauses 𝓤) (WpFn 𝓤 H C Λ function) (λ κs. (slice-vals, (uint-vals w64, (uint-vals w64, tt)))) (λ κs. (shr-slice-tells (named 0) (κs .0) u8, (uint-tells w64, (uint-tells w64, tt))))
+    walks C Λ fm known-new known-next =
+        walked 𝓤 H A plain.ended stayed (plain-clauses 𝓤) (WpFn 𝓤 H C Λ function) (λ κs. (slice-vals, (uint-vals w64, (uint-vals w64, tt)))) (λ κs.
+        (shr-slice-tells (named 0) (κs .0) u8, (uint-tells w64, (uint-tells w64, tt))))
         (λ κs qs bounds a g are. via 𝓤 _ (fst∗ 𝓤 _ (emp 𝓤)) (walk 𝓤 H A W mem run (κs .0) (qs .0) (a .0) (a .1 .0) (a .1 .1 .0) (are .1 .0 .1) (are .1 .1 .0 .1) C Λ fm known-new known-next (are .0)))
 
   pub meets : {M : Type 1} (𝓤 : URA M) (H : Heap 𝓤) (A : Atoms 𝓤) (W : Given 𝓤 H A) (mem : Memory → SProp 𝓤) (run : Routine → Fun 𝓤) (𝓣 : Tables 𝓤 H)
       → Triple 𝓤 (𝓣 .C #reader-at) (made.New 𝓤 H A mem run) → Triple 𝓤 (𝓣 .C name) (Next 𝓤 H A mem run)
       → Meets 𝓤 H A plain.signature (WpFn 𝓤 H (𝓣 .C) (𝓣 .Λ) function) (closing 𝓤 H A plain.ended (plain-clauses 𝓤))
-  meets 𝓤 H A W mem run 𝓣 known-new known-next = walk-meets 𝓤 H A plain.ended stayed W (goes-none-slice 𝓤 H A W 1 (0 ∷ []) tt (by-value (λ _. u8)) yes, (goes-none 𝓤 H A W 1 (λ _. usize) yes (λ κs x f. refl), (goes-none 𝓤 H A W 1 (λ _. usize) yes (λ κs x f. refl), tt))) (plain-clauses 𝓤) (WpFn 𝓤 H (𝓣 .C) (𝓣 .Λ) function) (WpFn-mono 𝓤 H (W .laws) 𝓣 function)
+  meets 𝓤 H A W mem run 𝓣 known-new known-next =
+      walk-meets 𝓤 H A plain.ended stayed W (
+        goes-none-slice 𝓤 H A W 1 (0 ∷ []) tt (by-value (λ _. u8)) yes,
+        (goes-none 𝓤 H A W 1 (λ _. usize) yes (λ κs x f. refl), (goes-none 𝓤 H A W 1 (λ _. usize) yes (λ κs x f. refl), tt)),
+      ) (plain-clauses 𝓤)
+      (WpFn 𝓤 H (𝓣 .C) (𝓣 .Λ) function) (WpFn-mono 𝓤 H (W .laws) 𝓣 function)
       (walks 𝓤 H A W mem run (𝓣 .C) (𝓣 .Λ) (fmOf 𝓤 H (W .laws) 𝓣) known-new known-next)

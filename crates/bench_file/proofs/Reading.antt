@@ -19,12 +19,12 @@ use Rattle.packet.specs.Packet.{inRange, maxWords}
 use Rattle.bench_file.specs.declared.Found.the-variants as F
 use Rattle.bench_file.specs.File.{packets, words, packetPlace, packetAt, countAt, wordPlace, bytesAt, wordsBefore, misfit, packetRefusal, firstRefusal, checkOf}
 use Rattle.bench_file.specs.Items.{Item, packet, word, wordItems, packetItems, items, itemsFrom}
-use Rattle.bench_file.specs.Reader.{readerAt, hasPacket, hasWord, wordFound, pastPacket, pastWord, nextOf, Gives, end, packet-first, then-word, Sound, Place}
+use Rattle.bench_file.specs.Reader.{readerAt, hasPacket, hasWord, wordFound, pastPacket, pastWord, nextFound, Gives, end, packet-first, then-word, Sound, Place}
 use Rattle.bench_file.proofs.Checking.{Fitting, fitting, one-more}
 use Rattle.bench_file.proofs.Finding.{packet-in, packet-past, packet-found, packet-end, past-packet, word-in, word-found, past-word}
 
 -- While words are left, a word is asked for.
-pub asks-word : (file : List ℕ) (i n left : ℕ) → nextOf file i n (suc left) ≡ wordFound file n
+pub asks-word : (file : List ℕ) (i n left : ℕ) → nextFound file i n (suc left) ≡ wordFound file n
 asks-word file i n left = simp (ne-eqb (suc left) 0 (λ q. omega arith))
 
 -- What a packet and a word that the reader gives mean for what is to come, at a place that it comes to.
@@ -111,10 +111,10 @@ module _ {file : List ℕ} (s : Sound file) where
       let w = s .whole in
       packet-in file i h (omega arith)
 
-  next-word : (i n left : ℕ) → n < words file → nextOf file i n (suc left) ≡ F.Word (wordPlace file n)
+  next-word : (i n left : ℕ) → n < words file → nextFound file i n (suc left) ≡ F.Word (wordPlace file n)
   next-word i n left h = asks-word file i n left ∙ word-found file n (word-here n h)
 
-  next-packet : (i n : ℕ) → i < packets file → nextOf file i n 0 ≡ F.Packet (packetAt file i) (countAt file i)
+  next-packet : (i n : ℕ) → i < packets file → nextFound file i n 0 ≡ F.Packet (packetAt file i) (countAt file i)
   next-packet i n h = packet-found file i (packet-here i h)
 
   -- What a place that the reader comes to is at.
@@ -159,7 +159,7 @@ module _ {file : List ℕ} (s : Sound file) where
       rw e
 
   -- What the reader's answer means for what is to come: a packet, a word, the end.
-  pub packet-given : {i n left count : ℕ} {p : Packet} → Place file i n left → nextOf file i n left ≡ F.Packet p count → PacketGiven file i n left p count
+  pub packet-given : {i n left count : ℕ} {p : Packet} → Place file i n left → nextFound file i n left ≡ F.Packet p count → PacketGiven file i n left p count
   packet-given {i} {n} {left = zero} {count} {p} place e =
       ⊎-elim
       (λ (h : i ≡ packets file). let z : _≡_ {A = ℕ} 0 1 = cc (packet-end file i (packet-past file i (omega arith))) in absurd (omega arith))
@@ -175,7 +175,7 @@ module _ {file : List ℕ} (s : Sound file) where
       let z : _≡_ {A = ℕ} 0 1 = cc in
       absurd (omega arith)
 
-  pub word-given : {i n left at : ℕ} → Place file i n left → nextOf file i n left ≡ F.Word at → WordGiven file i n left at
+  pub word-given : {i n left at : ℕ} → Place file i n left → nextFound file i n left ≡ F.Word at → WordGiven file i n left at
   word-given {i} {n} {left = zero} place e =
       ⊎-elim
       (λ (h : i ≡ packets file). let z : _≡_ {A = ℕ} 0 1 = cc (packet-end file i (packet-past file i (omega arith))) in absurd (omega arith))
@@ -187,7 +187,7 @@ module _ {file : List ℕ} (s : Sound file) where
       let same : wordPlace file n ≡ at = cc in
       rw (← same) (at-word i n left place)
 
-  pub end-given : {i n left : ℕ} → Place file i n left → nextOf file i n left ≡ F.End → itemsFrom file i n left ≡ []
+  pub end-given : {i n left : ℕ} → Place file i n left → nextFound file i n left ≡ F.End → itemsFrom file i n left ≡ []
   end-given {i} {n} {left = zero} place e =
       ⊎-elim
       (λ (h : i ≡ packets file). at-end i n h)

@@ -99,11 +99,11 @@ pub record NextWordPost (file : List ℕ) (n : ℕ) (r : Found) : Type 0 where
   pub given : givenOf file r ≡ wordHere file n
 
 -- From the next packet, the next word and how many words of the packet at hand are left: a word while any is left, then the next packet.
-abbrev pub nextOf : List ℕ → ℕ → ℕ → ℕ → Found
-nextOf file i n left = cond (eqb left 0) (packetFound file i) (wordFound file n)
+abbrev pub nextFound : List ℕ → ℕ → ℕ → ℕ → Found
+nextFound file i n left = cond (eqb left 0) (packetFound file i) (wordFound file n)
 
 pub record NextPost (file : List ℕ) (i n left : ℕ) (r : Found) : Type 0 where
-  pub answer : r ≡ nextOf file i n left
+  pub answer : r ≡ nextFound file i n left
   pub given : givenOf file r ≡ cond (eqb left 0) (packetHere file i) (wordHere file n)
 
 -- What holds of a file that is not refused.

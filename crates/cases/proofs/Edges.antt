@@ -3,20 +3,17 @@
 use Prim.Native.Nat.{ℕ}
 use mathlib.Core.Path.{_≡_, refl, ap}
 use mathlib.Core.Bool.{true, false}
-use mathlib.Core.List.{List, [], _∷_, _++_}
-use lib.ListN.{length}
+use mathlib.Core.List.{[], _∷_}
 use native.Mathlib.Omega.{arith}
-use Rattle.words.specs.declared.Word.{Word}
 use Rattle.words.specs.Word.{bits}
-use Rattle.words.specs.Tdh.{noData}
 use Rattle.words.specs.LaneStatus.{worstBelow}
 use Rattle.payload_fsm.specs.Step.{isThree}
-use Rattle.payload_fsm.specs.Settle.{DataClear, TdtDone, three-data, stateAfter}
+use Rattle.payload_fsm.specs.Settle.{three-data}
 use Rattle.payload_fsm.specs.declared.State.the-variants as S
 use Rattle.payload_fsm.proofs.Settle.{marker-settles, two-are-few}
 use Rattle.records.specs.Records.{Each}
 use Rattle.tdh_validator.specs.Tdh.{illegal}
-use Rattle.cases.specs.Edges.{Holds, found, no-period, outer-lane, status, from-three, table}
+use Rattle.cases.specs.Edges.{Holds, no-period, from-three, table}
 
 two : Holds (from-three 2 false)
 two (a ∷ b ∷ []) d e (ha, (hb, _)) t clear = ap isThree (two-are-few a b d ha hb t clear)

@@ -2,7 +2,7 @@
 -- Assumes nothing.
 use Prim.Native.Nat.{ℕ}
 use mathlib.Core.Path.{_≡_, refl}
-use mathlib.Core.Bool.{true, false}
+use mathlib.Core.Bool.{true}
 use mathlib.Core.List.{List, [], _∷_}
 use lib.Count.{ones}
 use Rattle.words.specs.Word.{number, wordOf, bits}
@@ -13,7 +13,7 @@ use Rattle.packet.specs.declared.Packet.{Packet}
 use Rattle.records.specs.Records.{flat, given, mostRecords}
 use Rattle.cdp_running.specs.Tracker.{startOf, packetCall}
 use Rattle.cdp_running.specs.declared.Tracker.{Tracker}
-use Rattle.cdp_running.specs.Word.{Outcome, recordsOf, takenOf, wordCall, answerOf}
+use Rattle.cdp_running.specs.Word.{Outcome, recordsOf, takenOf, wordCall, wordAnswer}
 use Rattle.cdp_running.specs.Answer.{Numbers, numbersOf}
 use Rattle.payload.specs.Payload.{wordsFrom, payloadCall, wordCalls, payloadCalls}
 use Rattle.bench_file.specs.File.{wordsBefore, misfit, firstRefusal, checkOf}
@@ -46,7 +46,7 @@ tells kind records frame start end lanes =
 
 pub told : List Outcome → List Numbers
 told [] = []
-told (o ∷ os) = numbersOf (answerOf begun o .told) ∷ told os
+told (o ∷ os) = numbersOf (wordAnswer begun o .told) ∷ told os
 
 pub whole-answers : told (payloadCalls begun fiveWords mostRecords)
     ≡ tells 1 0 0 0 0 1 ∷ tells 3 0 1 0 0 0 ∷ tells 6 1 0 0 0 0 ∷ tells 8 0 2 74 94 0 ∷ tells 4 2 1 0 0 0 ∷ []

@@ -1,6 +1,6 @@
 -- 01, "At the edges": the rows marked P, as one table.
 -- Assumes nothing.
-use Prim.Native.Nat.{ℕ, _+_, _*_, _<_, _^_}
+use Prim.Native.Nat.{ℕ, _+_}
 use mathlib.Core.Path.{_≡_}
 use mathlib.Core.Bool.{Bool, true, false}
 use mathlib.Core.List.{List, [], _∷_, _++_}
@@ -14,7 +14,6 @@ use Rattle.packet.specs.declared.Rule.{Rule}
 use Rattle.payload_fsm.specs.declared.State.the-variants as S
 use Rattle.payload_fsm.specs.Step.{isThree}
 use Rattle.payload_fsm.specs.Settle.{DataClear, TdtDone, stateAfter}
-use Rattle.records.specs.declared.Row.{Row}
 use Rattle.records.specs.Records.{when, Each}
 use Rattle.stored.specs.declared.InternalTdh.{InternalTdh}
 use Rattle.tdh_validator.specs.Tdh.{period, interval}

@@ -1,8 +1,8 @@
 -- Which case of a call's definition holds, over plain variables: what each return of the code hands over.
 -- Assumes nothing.
-use Prim.Native.Nat.{ℕ, _≤_, _<_, _^_}
+use Prim.Native.Nat.{ℕ, _≤_, _<_}
 use mathlib.Core.Path.{_≡_, refl, sym, ap, subst, _∙_}
-use mathlib.Core.Bool.{Bool, true, false, cond, _&&_, _||_}
+use mathlib.Core.Bool.{Bool, true, false, cond}
 use mathlib.Core.List.{List}
 use lib.Dec.{eqb}
 use lib.ListN.{length}
@@ -22,7 +22,7 @@ use Rattle.records.proofs.Given.{given-padded}
 use Rattle.cdp_running.specs.declared.Tracker.{Tracker}
 use Rattle.cdp_running.specs.declared.WordAnswer.{WordAnswer}
 use Rattle.cdp_running.specs.Tracker.{Good, packetCall, acceptOf, PacketPost}
-use Rattle.cdp_running.specs.Word.{takenAs, positionNow, rowsOf, recordsOf, Outcome, refused, takenOf, takenAnswer, wordCall, answerOf, recordsIn, WordPost}
+use Rattle.cdp_running.specs.Word.{takenAs, positionNow, rowsOf, recordsOf, Outcome, refused, takenOf, takenAnswer, wordCall, wordAnswer, recordsIn, WordPost}
 use Rattle.cdp_running.proofs.Good.{good-accept, good-next}
 
 -- A tracker that is a good one is good.
@@ -53,8 +53,8 @@ ten bytes {r} {w} d e = at (eqb (length bytes) 10) (sym d ∙ e)
     at false q = (cc, cc)
 
 -- The contract from the case that holds.
-met : {t : Tracker} {bytes buffer after : List ℕ} {r : WordAnswer} (o : Outcome) → wordCall t bytes (room buffer) ≡ o → r ≡ answerOf t o
-    → after ≡ over (flat (recordsIn o)) buffer → Good (answerOf t o .tracker) → WordPost t bytes buffer r after
+met : {t : Tracker} {bytes buffer after : List ℕ} {r : WordAnswer} (o : Outcome) → wordCall t bytes (room buffer) ≡ o → r ≡ wordAnswer t o
+    → after ≡ over (flat (recordsIn o)) buffer → Good (wordAnswer t o .tracker) → WordPost t bytes buffer r after
 met o e a b g = record { answer = rw e a; buffer-is = rw e b; good = rw a g }
 
 -- What writing the records found.
@@ -80,21 +80,21 @@ module _ (t : Tracker) (bytes : List ℕ) {a : Advanced} {w : Word} (p : a ≡ t
 
 module _ (t : Tracker) (bytes buffer : List ℕ) (g : Good t) where
   -- A refusal leaves the tracker and the buffer.
-  refusal : {r : WordAnswer} (n : ℕ) → wordCall t bytes (room buffer) ≡ refused n → r ≡ answerOf t (refused n) → WordPost t bytes buffer r buffer
+  refusal : {r : WordAnswer} (n : ℕ) → wordCall t bytes (room buffer) ≡ refused n → r ≡ wordAnswer t (refused n) → WordPost t bytes buffer r buffer
   unfolding flat
   refusal n e a = met (refused n) e a refl g
 
-  pub word-1 : {r : WordAnswer} → eqb (length bytes) 10 ≡ false → r ≡ answerOf t (refused 1) → WordPost t bytes buffer r buffer
+  pub word-1 : {r : WordAnswer} → eqb (length bytes) 10 ≡ false → r ≡ wordAnswer t (refused 1) → WordPost t bytes buffer r buffer
   unfolding wordCall
   word-1 b = refusal 1 (simp b)
 
   module _ (b : eqb (length bytes) 10 ≡ true) where
-    pub word-2 : {r : WordAnswer} → t .accepted ≡ false → r ≡ answerOf t (refused 2) → WordPost t bytes buffer r buffer
+    pub word-2 : {r : WordAnswer} → t .accepted ≡ false → r ≡ wordAnswer t (refused 2) → WordPost t bytes buffer r buffer
     unfolding wordCall
     word-2 p = refusal 2 (simp (b, p))
 
     module _ (p : t .accepted ≡ true) where
-      pub word-3 : {r : WordAnswer} → maxWords ≤ t .at .count → r ≡ answerOf t (refused 3) → WordPost t bytes buffer r buffer
+      pub word-3 : {r : WordAnswer} → maxWords ≤ t .at .count → r ≡ wordAnswer t (refused 3) → WordPost t bytes buffer r buffer
       unfolding wordCall
       word-3 h = refusal 3 (simp (b, p, le-leb _ _ h))
 
@@ -113,10 +113,12 @@ module _ (t : Tracker) (bytes buffer : List ℕ) (g : Good t) where
             (x ≡ cond (exceed (recordsOf t (wordOf bytes)) (room buffer)) NoRoom (Records (length (recordsOf t (wordOf bytes)))))
             × (after ≡ cond (exceed (recordsOf t (wordOf bytes)) (room buffer)) buffer (over (flat (recordsOf t (wordOf bytes))) buffer))
 
-        pub of-word : {x : Written} {after : List ℕ} → WritePost (positionNow t) (padded (rowsOf t (takenAs t (wordOf bytes)) (wordOf bytes))) buffer x after → Wrote x after
+        pub of-word : {x : Written} {after : List ℕ}
+            → WritePost (positionNow t) (padded (rowsOf t (takenAs t (wordOf bytes)) (wordOf bytes))) buffer x after → Wrote x after
         of-word w = (rw records-are at (w .answer), rw records-are at (w .buffer-is))
 
-        pub word-4 : {r : WordAnswer} {after : List ℕ} {x : Written} → Wrote x after → x ≡ NoRoom → r ≡ answerOf t (refused 4) → WordPost t bytes buffer r after
+        pub word-4 : {r : WordAnswer} {after : List ℕ} {x : Written} → Wrote x after → x ≡ NoRoom → r ≡ wordAnswer t (refused 4)
+            → WordPost t bytes buffer r after
         word-4 w e a =
             let full = no-room (exceed (recordsOf t (wordOf bytes)) (room buffer)) (length (recordsOf t (wordOf bytes))) (w .0) e in
             let stays = simp full at (w .1) in

@@ -43,7 +43,8 @@ pub not-in : (kind : ItsPayloadWord) (code : ℕ) → among code (codesAs kind) 
 not-in kind code e {c} p q = true≢false (sym p ∙ ap (λ (n : ℕ). among n (codesAs kind)) q ∙ e)
 
 -- The interval has one of three codes, in either kind.
-interval-in : (kind : ItsPayloadWord) → In kind 1045 → In kind 1046 → In kind 45 → (t : Tracker) (w : Word) → In kind (interval (t .settings) (t .stored .internal) w .code)
+interval-in : (kind : ItsPayloadWord) → In kind 1045 → In kind 1046 → In kind 45 → (t : Tracker) (w : Word)
+    → In kind (interval (t .settings) (t .stored .internal) w .code)
 interval-in kind past back period t w =
     let previous = t .stored .internal .bc in
     let difference = orbitDifference (t .stored .internal .orbit) (triggerOrbit w) in

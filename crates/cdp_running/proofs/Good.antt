@@ -1,29 +1,20 @@
 -- The invariant holds after the start and after every call.
 -- Assumes nothing.
-use Prim.Native.Nat.{ℕ, _+_, _*_, _≤_, _<_, _^_}
+use Prim.Native.Nat.{ℕ, _<_}
 use mathlib.Core.Path.{_≡_, refl, sym, ap, _∙_}
-use mathlib.Core.Bool.{Bool, true, false, cond, not, _&&_, _||_, and-false, true≢false}
-use native.Mathlib.Nat.{mul-le-mul-left}
+use mathlib.Core.Bool.{Bool, true, false, cond, true≢false}
 use native.Mathlib.Omega.{arith}
-use lib.Dec.{leb, ltb, eqb}
-use borrow.Author.Tests.{leb-true, lt-ltb}
-use Rattle.words.proofs.Tests.{both}
 use Rattle.words.specs.declared.Word.{Word}
-use Rattle.words.specs.Tdh.{triggerType, internalTrigger, triggerBc, triggerOrbit}
-use Rattle.words.specs.Ihw.{activeLanes}
-use Rattle.words.proofs.Bits.{bits-below}
 use Rattle.packet.specs.declared.Settings.{Settings}
 use Rattle.packet.specs.declared.Packet.{Packet}
-use Rattle.packet.specs.Packet.{inRange, maxPosition, mostPosition, maxWords, positionOf, noPacket}
+use Rattle.packet.specs.Packet.{inRange, maxWords, noPacket}
 use Rattle.packet.proofs.Places.{position-most}
-use Rattle.payload_fsm.specs.declared.ItsPayloadWord.{ItsPayloadWord}
-use Rattle.payload_fsm.specs.Kinds.{isIhw, isTdh, isData, isTdt}
 use Rattle.payload_fsm.specs.Step.{start}
 use Rattle.stored.proofs.Good.{good-none, good-stored, good-frame, kept-ihw, kept-tdh}
 use Rattle.stored.specs.Kept.{noStored, noFrame}
 use Rattle.cdp_running.specs.declared.Tracker.{Tracker}
 use Rattle.cdp_running.specs.Tracker.{Good, startOf, resetOf, acceptOf, pastIhw, pastTdh}
-use Rattle.cdp_running.specs.Next.{nextOf}
+use Rattle.cdp_running.specs.Next.{nextTracker}
 use Rattle.cdp_running.specs.Word.{takenAs, positionNow}
 use Rattle.cdp_running.proofs.Presence.{comes}
 
@@ -91,7 +82,7 @@ good-accept t p g e =
       fresh = λ f. clash f;
     }
 
-pub good-next : (t : Tracker) (w : Word) → Good t → t .accepted ≡ true → t .at .count < maxWords → Good (nextOf t (takenAs t w) w)
+pub good-next : (t : Tracker) (w : Word) → Good t → t .accepted ≡ true → t .at .count < maxWords → Good (nextTracker t (takenAs t w) w)
 good-next t w g have h =
     let a = takenAs t w in
     let c = comes (t .at .fsm .state) w in

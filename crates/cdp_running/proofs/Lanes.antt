@@ -26,7 +26,8 @@ use Rattle.cdp_running.specs.Word.{rowsAs, rowsOf, takenAs, positionNow,
 use Rattle.cdp_running.proofs.Codes.{among, codesAs, not-in, rows-in}
 
 -- The three codes are of a data word or CDW alone.
-of-data : (kind : ItsPayloadWord) → (among 1072 (codesAs kind) ≡ isData kind) × ((among 1071 (codesAs kind) ≡ isData kind) × (among 1074 (codesAs kind) ≡ isData kind))
+of-data : (kind : ItsPayloadWord) → (among 1072 (codesAs kind) ≡ isData kind)
+    × ((among 1071 (codesAs kind) ≡ isData kind) × (among 1074 (codesAs kind) ≡ isData kind))
 of-data K.Ihw = (refl, (refl, refl))
 of-data K.IhwContinuation = (refl, (refl, refl))
 of-data K.Tdh = (refl, (refl, refl))

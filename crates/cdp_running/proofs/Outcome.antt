@@ -1,6 +1,6 @@
 -- When a word is taken, and what it then comes to; which refusal is given when.
 -- Assumes nothing.
-use Prim.Native.Nat.{ℕ, _≤_, _<_}
+use Prim.Native.Nat.{ℕ, _<_}
 use mathlib.Core.Path.{_≡_, refl, sym, ap, _∙_}
 use mathlib.Core.Bool.{Bool, true, false, cond}
 use mathlib.Core.List.{List}
@@ -9,12 +9,10 @@ use lib.ListN.{length}
 use borrow.Author.Tests.{eqb-true, leb-false, eq-eqb, lt-leb}
 use Rattle.words.specs.Word.{wordOf}
 use Rattle.packet.specs.Packet.{maxWords}
-use Rattle.payload_fsm.specs.declared.ItsPayloadWord.{ItsPayloadWord}
-use Rattle.records.specs.Records.{Record, exceed}
-use Rattle.stored.specs.declared.FrameTold.{FrameTold}
+use Rattle.records.specs.Records.{exceed}
 use Rattle.cdp_running.specs.declared.Tracker.{Tracker}
-use Rattle.cdp_running.specs.Next.{nextOf}
-use Rattle.cdp_running.specs.Word.{takenAs, recordsOf, TakenWord, Outcome, taken, refused, takenOf, wordCall}
+use Rattle.cdp_running.specs.Next.{nextTracker}
+use Rattle.cdp_running.specs.Word.{takenAs, recordsOf, TakenWord, taken, refused, takenOf, wordCall}
 
 same : {x y : TakenWord} → taken x ≡ taken y → x ≡ y
 same e = cc
@@ -50,7 +48,7 @@ module _ (t : Tracker) (bytes : List ℕ) (places : ℕ) {x : TakenWord} (e : wo
   taken-is = sym (admitted-taken t bytes places taken-admitted) ∙ e
 
   -- The tracker after it, and its records.
-  pub next-is : x .next ≡ nextOf t (takenAs t (wordOf bytes)) (wordOf bytes)
+  pub next-is : x .next ≡ nextTracker t (takenAs t (wordOf bytes)) (wordOf bytes)
   unfolding takenOf
   next-is = ap (λ (y : TakenWord). y .next) (sym (same taken-is))
 

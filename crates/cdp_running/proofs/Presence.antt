@@ -1,18 +1,14 @@
 -- What is read is stored: outside the start state an IHW was taken, and after TDH_ a TDH was. So no `unwrap` of the Rust meets a missing word.
 -- Assumes nothing.
-use mathlib.Core.Path.{_≡_, refl, sym, _∙_}
-use mathlib.Core.Bool.{Bool, true, false, _||_, or-true, true≢false}
-use lib.Dec.{eqb}
+use mathlib.Core.Path.{_≡_, refl, sym}
+use mathlib.Core.Bool.{true, false, _||_, or-true, true≢false}
 use Rattle.words.specs.declared.Word.{Word}
-use Rattle.words.specs.Tdh.{noData}
 use Rattle.payload_fsm.specs.declared.State.{State}
 use Rattle.payload_fsm.specs.declared.State.the-variants as S
-use Rattle.payload_fsm.specs.declared.ItsPayloadWord.{ItsPayloadWord}
 use Rattle.payload_fsm.specs.declared.ItsPayloadWord.the-variants as K
 use Rattle.payload_fsm.specs.declared.Advanced.{Advanced}
 use Rattle.payload_fsm.specs.Kinds.{isIhw, isTdh, isData}
 use Rattle.payload_fsm.specs.Step.{advanceOf}
-use Rattle.payload_fsm.proofs.Rows.{choice, data-rows, three-rows}
 use Rattle.cdp_running.specs.declared.Tracker.{Tracker}
 use Rattle.cdp_running.specs.Tracker.{Good, pastIhw, pastTdh}
 use Rattle.cdp_running.specs.Word.{takenAs}

@@ -21,6 +21,7 @@ reset-unique t a b = unique (a .0) (b .0)
 pub packet-unique : {t : Tracker} {p : Packet} {first second : PacketAnswer} → PacketPost t p first → PacketPost t p second → first ≡ second
 packet-unique a b = unique (a .answer) (b .answer)
 
-pub word-unique : {t : Tracker} {bytes buffer after after′ : List ℕ} {first second : WordAnswer} → WordPost t bytes buffer first after → WordPost t bytes buffer second after′
+pub word-unique : {t : Tracker} {bytes buffer after after′ : List ℕ} {first second : WordAnswer} → WordPost t bytes buffer first after
+    → WordPost t bytes buffer second after′
     → (first ≡ second) × (after ≡ after′)
 word-unique a b = (unique (a .answer) (b .answer), unique (a .buffer-is) (b .buffer-is))

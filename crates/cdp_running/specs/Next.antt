@@ -13,8 +13,8 @@ abbrev pub nextAt : Advanced → At → At
 nextAt a old = record { fsm = a .fsm; count = old .count + 1; seen = nextSeen (a .word) (old .seen) }
 
 -- The tracker after a word that was taken as `a` says.
-abbrev pub nextOf : Tracker → Advanced → Word → Tracker
-nextOf t a w =
+abbrev pub nextTracker : Tracker → Advanced → Word → Tracker
+nextTracker t a w =
     record {
       settings = t .settings;
       accepted = t .accepted;

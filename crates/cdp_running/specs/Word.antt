@@ -27,7 +27,7 @@ use Rattle.cdp_running.specs.declared.Taken.{Taken}
 use Rattle.cdp_running.specs.declared.Told.the-variants as T
 use Rattle.cdp_running.specs.declared.WordAnswer.{WordAnswer}
 use Rattle.cdp_running.specs.Tracker.{Good}
-use Rattle.cdp_running.specs.Next.{nextOf}
+use Rattle.cdp_running.specs.Next.{nextTracker}
 
 -- What a word is taken as.
 abbrev pub takenAs : Tracker → Word → Advanced
@@ -42,7 +42,7 @@ rowsAs K.TdhAfterPacketDone guessed t w = Tdh.afterPacketDoneRows (t .settings) 
 rowsAs K.TdhContinuation guessed t w = Tdh.continuationRows (t .settings) (t .stored .tdh) w
 rowsAs K.DataWord guessed t w = DataWords.dataRows (t .settings) (t .at .seen) (t .stored .ihw .lanes) (t .stored .cdw) guessed w
 rowsAs K.Cdw guessed t w = DataWords.dataRows (t .settings) (t .at .seen) (t .stored .ihw .lanes) (t .stored .cdw) guessed w
-rowsAs K.Tdt guessed t w = Tdt.tdtRows (t .settings) (t .frame .live) w
+rowsAs K.Tdt guessed t w = Tdt.tdtRows (t .settings) (t .frame .opened) w
 rowsAs K.Ddw0 guessed t w = Ddw.ddw0Rows (t .settings) (t .packet) guessed w
 
 abbrev pub rowsOf : Tracker → Advanced → Word → List Row
@@ -72,7 +72,7 @@ pub data Outcome : Type 0 where
 abbrev pub takenAnswer : Tracker → Advanced → Word → ℕ → WordAnswer
 takenAnswer t a w records =
     record {
-      tracker = nextOf t a w;
+      tracker = nextTracker t a w;
       told =
           T.Taken
           (record {
@@ -89,7 +89,7 @@ takenOf t w =
     let a = takenAs t w in
     taken
     (record {
-      next = nextOf t a w;
+      next = nextTracker t a w;
       records = recordsOf t w;
       kind = a .word;
       guessed = a .guessed;
@@ -113,9 +113,9 @@ abbrev pub toldOf : TakenWord → Taken
 toldOf x = record { kind = x .kind; guessed = x .guessed; records = length (x .records); frame = x .frame; lanes = x .lanes }
 
 -- The answer: "A refusal returns its number and zeros", and the tracker as it was.
-abbrev pub answerOf : Tracker → Outcome → WordAnswer
-answerOf t (taken x) = record { tracker = x .next; told = T.Taken (toldOf x) }
-answerOf t (refused n) = record { tracker = t; told = T.Refused n }
+abbrev pub wordAnswer : Tracker → Outcome → WordAnswer
+wordAnswer t (taken x) = record { tracker = x .next; told = T.Taken (toldOf x) }
+wordAnswer t (refused n) = record { tracker = t; told = T.Refused n }
 
 -- The records that stand in the buffer.
 abbrev pub recordsIn : Outcome → List Record
@@ -124,6 +124,6 @@ recordsIn (refused n) = []
 
 -- What a word call gives, from the tracker, the bytes and the buffer.
 pub record WordPost (t : Tracker) (bytes buffer : List ℕ) (r : WordAnswer) (after : List ℕ) : Type 0 where
-  pub answer : r ≡ answerOf t (wordCall t bytes (room buffer))
+  pub answer : r ≡ wordAnswer t (wordCall t bytes (room buffer))
   pub buffer-is : after ≡ over (flat (recordsIn (wordCall t bytes (room buffer)))) buffer
   pub good : Good (r .tracker)

@@ -1,13 +1,10 @@
 // The tracker and its calls: start, packet, word, reset. The call for a whole payload stands above, in the crate payload.
 // Document 01, "Calls and settings" and "Records"; the Rust's cdp_running.rs.
 ghost use mathlib.Core.Path.{_≡_};
-ghost use Prim.Native.Nat.{_≤_};
-ghost use Rattle.packet.specs.Settings.{settingsOf};
-ghost use Rattle.packet.specs.Packet.{inRange, maxPosition, maxWords, positionOf};
 ghost use Rattle.records.specs.Records.{padded};
 ghost use Rattle.cdp_running.specs.Tracker.{Good, startOf, resetOf, PacketPost};
 ghost use Rattle.cdp_running.specs.Answer.{numbersOf};
-ghost use Rattle.cdp_running.specs.Word.{positionNow, rowsOf, Outcome, answerOf, WordPost};
+ghost use Rattle.cdp_running.specs.Word.{positionNow, rowsOf, Outcome, wordAnswer, WordPost};
 
 mod next;
 
@@ -132,7 +129,7 @@ fn rows_of(t: Tracker, a: Advanced, word: Word) -> [Row; MOST_RECORDS]
             let cdw = t.stored.cdw;
             validators::data_words::check(t.settings, t.at.seen, lanes, cdw, a.guessed, word)
         }
-        ItsPayloadWord::Tdt => validators::tdt::check(t.settings, t.frame.live, word),
+        ItsPayloadWord::Tdt => validators::tdt::check(t.settings, t.frame.opened, word),
         ItsPayloadWord::Ddw0 => {
             validators::ddw::check_at_ddw0(t.settings, t.packet, a.guessed, word)
         }
@@ -140,7 +137,7 @@ fn rows_of(t: Tracker, a: Advanced, word: Word) -> [Row; MOST_RECORDS]
 }
 
 fn refused(t: Tracker, n: u8) -> WordAnswer
-    ensures { λ r. ⌜ r ≡ answerOf t (Outcome.refused n) ⌝ }
+    ensures { λ r. ⌜ r ≡ wordAnswer t (Outcome.refused n) ⌝ }
 {
     WordAnswer {
         tracker: t,
@@ -192,7 +189,7 @@ impl Tracker {
                 },
             },
             frame: Frame {
-                live: false,
+                opened: false,
                 start: 0,
             },
         }

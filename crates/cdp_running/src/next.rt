@@ -2,7 +2,7 @@
 ghost use mathlib.Core.Path.{_≡_};
 ghost use Rattle.cdp_running.specs.Tracker.{Good};
 ghost use Rattle.cdp_running.specs.Word.{takenAnswer};
-ghost use Rattle.cdp_running.specs.Next.{nextOf};
+ghost use Rattle.cdp_running.specs.Next.{nextTracker};
 use crate::At;
 use crate::Taken;
 use crate::Told;
@@ -15,7 +15,7 @@ impl Tracker {
     // The tracker after a word that is taken as `a` says.
     pub(crate) fn after(self, a: Advanced, word: Word) -> Tracker
         requires { ⌜ Good self ⌝ }
-        ensures { λ r. ⌜ r ≡ nextOf self a word ⌝ }
+        ensures { λ r. ⌜ r ≡ nextTracker self a word ⌝ }
     {
         let kind = a.word;
         let settings = self.settings;

@@ -190,7 +190,12 @@ module _ (a b : List ℕ) where
       (eachOne (7 - (l .part + 1)) (l .part + 1) (fieldPlace a b (l .packet)) ++ (rowOf (l .packet) ++ packetsFrom (l .packet + 1))) low
       (record {
         rest = λ count. refl;
-        good = λ count. record { at = record { both = g .at .both; here = g .at .here; one = g .at .one; two = g .at .two }; within = g .within; part = omega arith };
+        good =
+            λ count. record {
+              at = record { both = g .at .both; here = g .at .here; one = g .at .one; two = g .at .two };
+              within = g .within;
+              part = omega arith;
+            };
         less = λ count. omega (arith, g .within);
       })
       (rw (each-more 7 (l .part) (λ (i : ℕ). fieldPlace a b (l .packet) i ∷ []) h)))
@@ -199,7 +204,12 @@ module _ (a b : List ℕ) where
       moved (atStage S.Fields l) S.Bytes (l .packet) 0 (l .first) (l .second) (rowOf (l .packet) ++ packetsFrom (l .packet + 1)) low
       (record {
         rest = λ count. rw sub-zero;
-        good = λ count. record { at = record { both = g .at .both; here = g .at .here; one = g .at .one; two = g .at .two }; within = g .within; part = omega arith };
+        good =
+            λ count. record {
+              at = record { both = g .at .both; here = g .at .here; one = g .at .one; two = g .at .two };
+              within = g .within;
+              part = omega arith;
+            };
         less = λ count. omega (arith, g .within, g .part);
       })
       (rw (each-none 7 (l .part) (λ (i : ℕ). fieldPlace a b (l .packet) i ∷ []) h)))
@@ -217,7 +227,12 @@ module _ (a b : List ℕ) where
       (eachOne (10 * commonWords a b (l .packet) - (l .part + 1)) (l .part + 1) (rowPlace (l .packet)) ++ packetsFrom (l .packet + 1)) low
       (record {
         rest = λ count. refl;
-        good = λ count. record { at = record { both = g .at .both; here = g .at .here; one = g .at .one; two = g .at .two }; within = g .within; part = omega arith };
+        good =
+            λ count. record {
+              at = record { both = g .at .both; here = g .at .here; one = g .at .one; two = g .at .two };
+              within = g .within;
+              part = omega arith;
+            };
         less = λ count. omega (arith, g .within, few);
       })
       (rw (each-more (10 * commonWords a b (l .packet)) (l .part) (λ (j : ℕ). rowPlace (l .packet) j ∷ []) h)))
@@ -226,7 +241,17 @@ module _ (a b : List ℕ) where
       moved (atStage S.Bytes l) S.Packet (l .packet + 1) 0 (l .first + countAt a (l .packet)) (l .second + countAt b (l .packet)) (packetsFrom (l .packet + 1)) low
       (record {
         rest = λ count. refl;
-        good = λ count. record { both = g .at .both; here = omega (arith, g .within); one = omega (arith, g .at .one, sum); two = omega (arith, g .at .two, sum′) };
+        good =
+            λ count. record {
+              both = g .at .both;
+              here = omega (arith, g .within);
+              one = omega (arith, g .at .one, sum);
+              two = omega (
+                arith,
+                g .at .two,
+                sum′,
+              );
+            };
         less = λ count. omega (arith, g .within, g .part, few);
       })
       (rw (each-none (10 * commonWords a b (l .packet)) (l .part) (λ (j : ℕ). rowPlace (l .packet) j ∷ []) h)))
@@ -252,7 +277,8 @@ module _ (a b : List ℕ) where
   stage S.Bytes l g = byteMoves (atStage S.Bytes l) (g .at) (g .low)
   stage S.Last l g =
       record { good = record { at = tt; low = omega (arith, g .low) }; front = last (l .count); less = λ _. omega arith }
-  stage (S.Refused n file) l g = record { good = record { at = tt; low = omega (arith, g .low) }; front = append-nil (refusedLine n file); less = λ _. omega arith }
+  stage (S.Refused n file) l g =
+      record { good = record { at = tt; low = omega (arith, g .low) }; front = append-nil (refusedLine n file); less = λ _. omega arith }
   stage S.Done l g = record { good = g; front = refl; less = λ e. absurd (true≢false e) }
 
   -- There is one stage of a listing that is done.

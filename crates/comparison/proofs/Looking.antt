@@ -20,7 +20,7 @@ use Rattle.comparison.specs.declared.Where.the-variants as W
 use Rattle.comparison.specs.declared.Place.{Place}
 use Rattle.comparison.specs.declared.Stage.the-variants as S
 use Rattle.comparison.specs.declared.Listing.{Listing}
-use Rattle.comparison.specs.Compare.{common, commonWords, fieldOf, byteAt, place}
+use Rattle.comparison.specs.Compare.{common, commonWords, fieldOf, place}
 use Rattle.comparison.specs.Text.{lineOf}
 use Rattle.comparison.specs.Listing.{standing, counted, tell, packetsStep, wordsStep, countsStep, packetStep, fieldsStep, bytesStep, Both, AtByte}
 

@@ -9,7 +9,7 @@ use native.Mathlib.Omega.{arith}
 use borrow.Author.Tests.{eqb-true, ltb-false}
 use lib.Dec.{ltb, eqb}
 use lib.ListN.{length}
-use Rattle.bench_file.specs.File.{packets, checkOf}
+use Rattle.bench_file.specs.File.{checkOf}
 use Rattle.bench_file.proofs.Reading.{sound}
 use Rattle.ascii.specs.Steps.{Prints, StepPost, Steps}
 use Rattle.ascii.proofs.Steps.{Ends, onward, steps-print, ends}
@@ -17,7 +17,7 @@ pub use Rattle.ascii.proofs.Steps.{step-fits}
 use Rattle.comparison.specs.declared.Stage.{Stage}
 use Rattle.comparison.specs.declared.Stage.the-variants as S
 use Rattle.comparison.specs.declared.Listing.{Listing}
-use Rattle.comparison.specs.Compare.{mostCompared, refusalOf, common, differences}
+use Rattle.comparison.specs.Compare.{mostCompared, refusalOf, differences}
 use Rattle.comparison.specs.Text.{text, mostPrinted}
 use Rattle.comparison.specs.Listing.{standing, firstStage, startListing, stageStep, stepOf, isDone, mostLeft, GoodAt, Good, printer}
 use Rattle.comparison.proofs.Keeping.{restOf, laws}

@@ -1,8 +1,8 @@
 -- "Nothing is listed, counts included, exactly when the files are equal."
 -- Assumes nothing.
-use Prim.Native.Nat.{ℕ, zero, suc, _+_, _-_, _*_, _/_, _%_, _≤_, _<_}
+use Prim.Native.Nat.{ℕ, zero, suc, _+_, _*_, _/_, _%_, _≤_, _<_}
 use mathlib.Core.Path.{_≡_, refl, sym, ap, subst, _∙_}
-use mathlib.Core.Bool.{Bool, true, false, cond}
+use mathlib.Core.Bool.{Bool, true, false}
 use mathlib.Core.List.{List, [], _∷_, _++_, cons-ne-nil}
 use mathlib.Core.Logic.{_↔_, ⊎-elim}
 use native.Mathlib.Nat.{eq-or-lt-of-le}
@@ -15,7 +15,7 @@ use Rattle.words.specs.Word.{number}
 use Rattle.words.specs.LittleEndian.{numberAt}
 use Rattle.records.specs.Records.{Each}
 use Rattle.bench_file.specs.File.{packets, words, packetPlace, packetAt, countAt, wordPlace, wordsBefore, checkOf}
-use Rattle.bench_file.proofs.Checking.{Fitting, one-more}
+use Rattle.bench_file.proofs.Checking.{one-more}
 use Rattle.bench_file.proofs.Reading.{fits, sound, words-at-most}
 use Rattle.comparison.specs.declared.Place.{Place}
 use Rattle.comparison.specs.declared.Where.{Where}
@@ -134,7 +134,8 @@ module _ (a b : List ℕ) (pa : Bytes a) (pb : Bytes b) (ca : checkOf a ≡ 0) (
   unfolding differences
   all-same = none-differs (places a b) none
 
-  parts : Same (packetsPlace a b) × (Same (wordsPlace a b) × (AllSame (eachOne (common a b) 0 (countPlace a b)) × AllSame (each (common a b) 0 (packetPlaces a b))))
+  parts : Same (packetsPlace a b)
+      × (Same (wordsPlace a b) × (AllSame (eachOne (common a b) 0 (countPlace a b)) × AllSame (each (common a b) 0 (packetPlaces a b))))
   unfolding places
   parts = let h = all-same in (h .0, (h .1 .0, same-both (eachOne (common a b) 0 (countPlace a b)) (each (common a b) 0 (packetPlaces a b)) (h .1 .1)))
 
@@ -206,7 +207,8 @@ module _ (a b : List ℕ) (pa : Bytes a) (pb : Bytes b) (ca : checkOf a ≡ 0) (
 
   -- A number of a packet or of the header, and all that follows.
   at-place : (at n next : ℕ) → at + n ≡ next → next ≤ packetPlace (packets a) → numberAt a at n ≡ numberAt b at n → FromHere next → FromHere at
-  at-place at n next s le e rest = by-field a b pa pb at n (omega (arith, s, le, whole)) (omega (arith, s, le, whole, same-length)) e (subst FromHere (sym s) rest)
+  at-place at n next s le e rest =
+      by-field a b pa pb at n (omega (arith, s, le, whole)) (omega (arith, s, le, whole, same-length)) e (subst FromHere (sym s) rest)
 
   by-packet : (p : ℕ) → p < packets a → FromHere (packetPlace (suc p)) → FromHere (packetPlace p)
   by-packet p lt rest =

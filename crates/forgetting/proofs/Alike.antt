@@ -1,7 +1,7 @@
 -- Equal calls leave two such trackers so, and say the same kinds.
 -- Assumes nothing.
 use Prim.Native.Nat.{ℕ, zero, suc, _+_, _-_, _*_, _/_, _%_, _≤_}
-use mathlib.Core.Path.{_≡_, refl, sym, ap, subst, _∙_}
+use mathlib.Core.Path.{_≡_, refl, sym, ap, subst}
 use mathlib.Core.Bool.{Bool, true, false, cond}
 use mathlib.Core.List.{List, [], _∷_, _++_}
 use native.Mathlib.Nat.{le-of-eq}
@@ -12,18 +12,18 @@ use lib.Seq.{take-all}
 use Rattle.words.specs.Word.{wordOf}
 use Rattle.packet.specs.declared.Packet.{Packet}
 use Rattle.packet.specs.Packet.{inRange}
-use Rattle.records.specs.Records.{Record, room, Each, mostRecords}
+use Rattle.records.specs.Records.{room, Each, mostRecords}
 use Rattle.cdp_running.specs.declared.Tracker.{Tracker}
 use Rattle.cdp_running.specs.declared.PacketAnswer.{PacketAnswer}
 use Rattle.cdp_running.specs.Tracker.{acceptOf, resetOf, packetCall}
 use Rattle.cdp_running.specs.Word as Word
-use Rattle.cdp_running.specs.Word.{Outcome, taken, refused, wordCall}
+use Rattle.cdp_running.specs.Word.{Outcome, refused, wordCall}
 use Rattle.cdp_running.proofs.Outcome.{taken-admitted}
-use Rattle.payload.specs.Payload.{Run, further, wordCalls, payloadCall, payloadCalls, total}
+use Rattle.payload.specs.Payload.{Run, further, wordCalls, payloadCalls, total}
 use Rattle.payload.proofs.Words.{payload-total}
-use Rattle.forgetting.specs.Calls.{Call, packet, word, payload, reset, after, run, Kind, kind, refusal, kindsIn, kindsOf, kinds, bytesOf, wordsOf, Took, tookIn, tookOf, took}
+use Rattle.forgetting.specs.Calls.{Call, packet, word, payload, reset, after, run, kind, refusal, kindsIn, kindsOf, kinds, Took, tookIn, tookOf, took}
 use Rattle.forgetting.specs.Forget.{Roomy}
-use Rattle.forgetting.proofs.Same.{Met, meets, meetsAll, storing, Same, carried, other, itself, Alike, both-refused, both-taken, word-alike}
+use Rattle.forgetting.proofs.Same.{Met, meets, meetsAll, Same, carried, other, itself, Alike, both-refused, both-taken, word-alike}
 
 -- What word calls on two trackers come to.
 record Both (m : Met) (t u : Tracker) (b : List ℕ) (os os′ : List Outcome) : Type 0 where
@@ -93,7 +93,7 @@ call-agrees m t u (word b buffer) s h =
     record { kinds-agree = both .0; same = both .1 }
   where
     at : {o o′ : Outcome} → wordCall t b (room buffer) ≡ o → Alike m t (wordOf b) o o′
-        → (kindsIn (o ∷ []) ≡ kindsIn (o′ ∷ [])) × Same (meetsAll m (tookIn t b (o ∷ []))) (Word.answerOf t o .tracker) (Word.answerOf u o′ .tracker)
+        → (kindsIn (o ∷ []) ≡ kindsIn (o′ ∷ [])) × Same (meetsAll m (tookIn t b (o ∷ []))) (Word.wordAnswer t o .tracker) (Word.wordAnswer u o′ .tracker)
     at e (both-refused x) = (refl, s)
     at e (both-taken {x = x} {y = y} k g same low low′) =
         let ten = take-all 10 b (le-of-eq (taken-admitted t b (room buffer) e .ten)) in

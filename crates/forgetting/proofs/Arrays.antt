@@ -3,18 +3,17 @@
 -- Assumes nothing.
 use Prim.Native.Nat.{ℕ, _+_}
 use mathlib.Core.Path.{_≡_, refl, sym, ap, _∙_}
-use mathlib.Core.Bool.{Bool, cond}
+use mathlib.Core.Bool.{cond}
 use mathlib.Core.List.{List, [], _∷_, _++_}
 use Rattle.payload_fsm.specs.Kinds.{kindNumber}
 use Rattle.records.specs.Records.{Each, room}
 use Rattle.cdp_running.specs.declared.Tracker.{Tracker}
 use Rattle.cdp_running.specs.Word as Word
 use Rattle.cdp_running.specs.Word.{Outcome, taken, refused, wordCall}
-use Rattle.payload.specs.Payload.{Run, total, payloadCall, payloadCalls}
+use Rattle.payload.specs.Payload.{Run, total, payloadCalls}
 use Rattle.payload.proofs.Words.{payload-total}
 use Rattle.tracker_array.specs.Array.{encodeOf, IsTracker}
 use Rattle.khandzorul.specs.Answer.{toldNumbers}
-use Rattle.khandzorul.specs.Calls.{PacketOn, ResetOn, WordOn, PayloadOn}
 use Rattle.khandzorul.proofs.Laws.{packet-holds, reset-holds, word-holds, payload-holds}
 use Rattle.forgetting.specs.Calls as C
 use Rattle.forgetting.specs.Calls.{Call, after, run, Answer, answer, answers, Kind, kind, refusal, kindOf, kindsIn, kindsOf, kinds, took}
@@ -89,7 +88,7 @@ ofCall (C.word bytes buffer) ks = ofWord ks
 ofCall (C.payload bytes buffer) ks = refusalIn ks ∷ takenIn ks ∷ []
 ofCall C.reset ks = 0 ∷ []
 
-word-kinds : (t : Tracker) (o : Outcome) (buffer : List ℕ) → kindsSeen (Show.word (toldNumbers (Word.answerOf t o .told)) buffer) ≡ ofWord (kindOf o ∷ [])
+word-kinds : (t : Tracker) (o : Outcome) (buffer : List ℕ) → kindsSeen (Show.word (toldNumbers (Word.wordAnswer t o .told)) buffer) ≡ ofWord (kindOf o ∷ [])
 unfolding ofWord
 word-kinds t (taken x) buffer = refl
 word-kinds t (refused n) buffer = refl

@@ -1,19 +1,16 @@
 -- Promise 3: the past is forgotten in time.
 -- Assumes nothing.
-use mathlib.Core.Path.{_≡_, refl, sym, ap, _∙_}
-use mathlib.Core.Bool.{Bool, true, false, _||_, or-assoc, or-false, true≢false}
+use mathlib.Core.Path.{_≡_, sym, ap, _∙_}
+use mathlib.Core.Bool.{true, false, _||_, or-assoc, or-false, true≢false}
 use mathlib.Core.List.{List, [], _∷_, _++_}
 use Rattle.packet.specs.declared.Settings.{Settings}
 use Rattle.packet.specs.declared.Packet.{Packet}
 use Rattle.packet.specs.Packet.{inRange}
-use Rattle.payload_fsm.specs.declared.State.{State}
-use Rattle.payload_fsm.specs.declared.State.the-variants as S
 use Rattle.records.specs.Records.{Each}
 use Rattle.stored.specs.declared.Stored.{Stored}
 use Rattle.cdp_running.specs.declared.Tracker.{Tracker}
 use Rattle.cdp_running.specs.Tracker.{Good, startOf, acceptOf, packetCall}
 use Rattle.cdp_running.proofs.Good.{good-start}
-use Rattle.cdp_running.proofs.Replace.{packet-sets}
 use Rattle.forgetting.specs.Calls.{Call, packet, word, payload, reset, after, run, answers, Took, tookIn, tookOf, took}
 use Rattle.forgetting.specs.Forget.{AcceptedMarker, Roomy, Begins, asIhw, asInternalTdh, asFirstCdw, some, HasMet, Forgotten}
 use Rattle.forgetting.proofs.Walk.{walk-settings, run-walk, good-run, run-settings}
@@ -109,7 +106,8 @@ each-front [] later h = tt
 each-front (c ∷ calls) later h = (h .0, each-front calls later (h .1))
 
 -- Two trackers that meet the invariant, with equal settings; each accepts the marker; then come equal calls, with room, that begin with an accepted packet.
-pub forgetting : (t u : Tracker) (past past′ calls later : List Call) → Good t → Good u → t .settings ≡ u .settings → AcceptedMarker t past → AcceptedMarker u past′
+pub forgetting : (t u : Tracker) (past past′ calls later : List Call) → Good t → Good u → t .settings ≡ u .settings → AcceptedMarker t past
+    → AcceptedMarker u past′
     → Begins (calls ++ later) → Each Roomy (calls ++ later) → Forgotten (run t past) (run u past′) calls later
 forgetting t u past past′ calls later gt gu e mt mu b h =
     let set = walk-settings (run-walk t past (mt .no-reset)) ∙ e ∙ sym (walk-settings (run-walk u past′ (mu .no-reset))) in

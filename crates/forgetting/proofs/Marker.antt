@@ -14,7 +14,7 @@ use Rattle.stored.specs.Kept.{noFrame}
 use Rattle.stored.proofs.Replace.{frame-closed}
 use Rattle.cdp_running.specs.declared.Tracker.{Tracker}
 use Rattle.cdp_running.specs.Tracker.{Good}
-use Rattle.cdp_running.specs.Next.{nextOf}
+use Rattle.cdp_running.specs.Next.{nextTracker}
 use Rattle.cdp_running.specs.Word.{takenAs, positionNow}
 use Rattle.cdp_running.proofs.Good.{good-accept, good-next}
 use Rattle.forgetting.specs.Calls.{Call, run}
@@ -32,7 +32,7 @@ rests (accepts p r rest) e s = rests rest e (record { state = s .state; frame = 
 rests (takes w have low rest) e s = absurd (cons≢nil e)
 
 -- A TDT with packet done, where data is expected.
-settles : (t : Tracker) (d : Word) → Good (nextOf t (takenAs t d) d) → AmongData (t .at .fsm .state) → TdtDone d → Settled (nextOf t (takenAs t d) d)
+settles : (t : Tracker) (d : Word) → Good (nextTracker t (takenAs t d) d) → AmongData (t .at .fsm .state) → TdtDone d → Settled (nextTracker t (takenAs t d) d)
 settles t d g data-state done =
     let is : takenAs t d ≡ taken K.Tdt S.Three = closes (t .at .fsm .state) d data-state done in
     record {
@@ -40,12 +40,13 @@ settles t d g data-state done =
       frame = at (t .settings .frames) refl is;
     }
   where
-    at : (frames : Bool) → t .settings .frames ≡ frames → takenAs t d ≡ taken K.Tdt S.Three → nextOf t (takenAs t d) d .frame ≡ noFrame
+    at : (frames : Bool) → t .settings .frames ≡ frames → takenAs t d ≡ taken K.Tdt S.Three → nextTracker t (takenAs t d) d .frame ≡ noFrame
     at true on is = rw (on, is) (frame-closed d (positionNow t) (t .frame) (done .done))
     at false off is = g .frame .absent (g .frame .off off)
 
 -- Words, and then such a TDT as the last.
-closing : {t u : Tracker} {zs : List Word} (ws : List Word) (d : Word) → Walk t zs u → zs ≡ ws ++ (d ∷ []) → Good t → AmongData (stateAfter (t .at .fsm .state) ws)
+closing : {t u : Tracker} {zs : List Word} (ws : List Word) (d : Word) → Walk t zs u → zs ≡ ws ++ (d ∷ []) → Good t
+    → AmongData (stateAfter (t .at .fsm .state) ws)
     → TdtDone d → Settled u
 unfolding stateAfter
 closing [] d here e g s done = absurd (nil≢cons e)

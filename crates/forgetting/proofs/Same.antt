@@ -1,29 +1,26 @@
 -- Two trackers that are the same but for what they store, and of that the same what was met: a word leaves them so.
 -- Assumes nothing.
 use Prim.Native.Nat.{ℕ, _≤_}
-use mathlib.Core.Path.{_≡_, refl, sym, ap, subst, _∙_}
-use mathlib.Core.Bool.{Bool, true, false, cond, _||_, or-assoc, or-false}
-use mathlib.Core.List.{List, [], _∷_, _++_}
+use mathlib.Core.Path.{_≡_, refl, ap, subst, _∙_}
+use mathlib.Core.Bool.{Bool, true, false, cond, _||_}
+use mathlib.Core.List.{List, [], _∷_}
 use native.Mathlib.Omega.{arith}
 use borrow.Author.Tests.{le-ltb, eqb-true}
 use lib.Dec.{leb, eqb}
 use lib.ListN.{length}
 use Rattle.words.specs.declared.Word.{Word}
 use Rattle.words.specs.Word.{wordOf}
-use Rattle.packet.specs.declared.Packet.{Packet}
 use Rattle.packet.specs.Packet.{maxWords}
-use Rattle.payload_fsm.specs.declared.ItsPayloadWord.{ItsPayloadWord}
-use Rattle.records.specs.Records.{Record, exceed, mostRecords}
+use Rattle.records.specs.Records.{exceed, mostRecords}
 use Rattle.stored.specs.declared.Stored.{Stored}
-use Rattle.stored.specs.declared.FrameTold.{FrameTold}
 use Rattle.stored.specs.Stored.{nextStored}
 use Rattle.stored.proofs.Replace.{ihw-replaced, tdh-replaced, internal-replaced, cdw-replaced}
 use Rattle.cdp_running.specs.declared.Tracker.{Tracker}
-use Rattle.cdp_running.specs.Next.{nextOf}
+use Rattle.cdp_running.specs.Next.{nextTracker}
 use Rattle.cdp_running.specs.Word.{takenAs, recordsOf, TakenWord, Outcome, taken, refused, takenOf, wordCall}
 use Rattle.cdp_running.proofs.Fine.{few-records}
 use Rattle.forgetting.specs.Calls.{Took}
-use Rattle.forgetting.specs.Forget.{asIhw, asInternalTdh, asFirstCdw, some, HasMet}
+use Rattle.forgetting.specs.Forget.{asIhw, asInternalTdh, asFirstCdw}
 
 -- What was met.
 pub record Met : Type 0 where
@@ -87,11 +84,11 @@ stored-same {m = m} x old old′ s =
       cdw = cdw-replaced (m .cdw) (x .kind) (x .word) (x .seen) (old .cdw) (old′ .cdw) (s .cdw);
     }
 
-same-next : {m : Met} {t u : Tracker} (w : Word) → Same m t u → Same (meets m (tookBy t w)) (nextOf t (takenAs t w) w) (nextOf u (takenAs u w) w)
+same-next : {m : Met} {t u : Tracker} (w : Word) → Same m t u → Same (meets m (tookBy t w)) (nextTracker t (takenAs t w) w) (nextTracker u (takenAs u w) w)
 same-next {t = t} w s =
     record {
       stored = nextStored (takenAs t w .word) (t .at .seen) w (s .stored);
-      is = ap (λ (x : Tracker). nextOf x (takenAs x w) w) (s .is);
+      is = ap (λ (x : Tracker). nextTracker x (takenAs x w) w) (s .is);
       same = stored-same (tookBy t w) (t .stored) (s .stored) (s .same);
     }
 
@@ -99,7 +96,8 @@ same-next {t = t} w s =
 pub data Alike (m : Met) (t : Tracker) (w : Word) : Outcome → Outcome → Type 0 where
   both-refused : (n : ℕ) → Alike m t w (refused n) (refused n)
   both-taken : {x y : TakenWord} → x .kind ≡ y .kind → x .guessed ≡ y .guessed
-      → Same (meets m (record { word = w; kind = x .kind; seen = t .at .seen })) (x .next) (y .next) → length (x .records) ≤ mostRecords → length (y .records) ≤ mostRecords
+      → Same (meets m (record { word = w; kind = x .kind; seen = t .at .seen })) (x .next) (y .next) → length (x .records) ≤ mostRecords
+      → length (y .records) ≤ mostRecords
       → Alike m t w (taken x) (taken y)
 
 -- Six places are room enough.

@@ -12,27 +12,25 @@ use Rattle.words.specs.declared.Word.{Word}
 use Rattle.words.specs.Word.{wordOf}
 use Rattle.packet.specs.declared.Packet.{Packet}
 use Rattle.packet.specs.Packet.{inRange, maxWords}
-use Rattle.payload_fsm.specs.declared.ItsPayloadWord.{ItsPayloadWord}
-use Rattle.payload_fsm.specs.Settle.{stateAfter}
-use Rattle.records.specs.Records.{Record, room, Each}
-use Rattle.stored.specs.declared.FrameTold.{FrameTold}
+use Rattle.records.specs.Records.{room, Each}
 use Rattle.cdp_running.specs.declared.Tracker.{Tracker}
 use Rattle.cdp_running.specs.declared.PacketAnswer.{PacketAnswer}
-use Rattle.cdp_running.specs.Tracker.{Good, acceptOf, resetOf, packetCall}
-use Rattle.cdp_running.specs.Next.{nextOf}
+use Rattle.cdp_running.specs.Tracker.{Good, acceptOf, packetCall}
+use Rattle.cdp_running.specs.Next.{nextTracker}
 use Rattle.cdp_running.specs.Word as Word
 use Rattle.cdp_running.specs.Word.{TakenWord, Outcome, taken, refused, wordCall, takenAs}
 use Rattle.cdp_running.proofs.Good.{good-accept, good-next, good-reset}
 use Rattle.cdp_running.proofs.Outcome.{taken-admitted, next-is}
-use Rattle.payload.specs.Payload.{Run, further, wordCalls, payloadCall, payloadCalls, stop, total}
+use Rattle.payload.specs.Payload.{Run, further, wordCalls, payloadCalls, total}
 use Rattle.payload.proofs.Words.{payload-total}
-use Rattle.forgetting.specs.Calls.{Call, packet, word, payload, reset, after, run, bytesOf, tookIn, tookOf, took, wordsOf, wordsIn, Took}
+use Rattle.forgetting.specs.Calls.{Call, packet, word, payload, reset, after, run, tookIn, tookOf, took, wordsIn, Took}
 use Rattle.forgetting.specs.Forget.{NoReset}
 
 pub data Walk : Tracker → List Word → Tracker → Type 0 where
   here : {t : Tracker} → Walk t [] t
   accepts : {t u : Tracker} {ws : List Word} (p : Packet) → inRange p ≡ true → Walk (acceptOf t p) ws u → Walk t ws u
-  takes : {t u : Tracker} {ws : List Word} (w : Word) → t .accepted ≡ true → t .at .count < maxWords → Walk (nextOf t (takenAs t w) w) ws u → Walk t (w ∷ ws) u
+  takes : {t u : Tracker} {ws : List Word} (w : Word) → t .accepted ≡ true → t .at .count < maxWords → Walk (nextTracker t (takenAs t w) w) ws u
+      → Walk t (w ∷ ws) u
 
 pub walk-good : {t u : Tracker} {ws : List Word} → Walk t ws u → Good t → Good u
 walk-good here g = g
@@ -50,18 +48,21 @@ walk-append (accepts p e first) rest = accepts p e (walk-append first rest)
 walk-append (takes w have low first) rest = takes w have low (walk-append first rest)
 
 -- Of a word call.
-word-walk : (t : Tracker) (b : List ℕ) (places : ℕ) {x : TakenWord} {u : Tracker} {ws : List Word} → wordCall t b places ≡ taken x → Walk (x .next) ws u → Walk t (wordOf b ∷ ws) u
+word-walk : (t : Tracker) (b : List ℕ) (places : ℕ) {x : TakenWord} {u : Tracker} {ws : List Word} → wordCall t b places ≡ taken x
+    → Walk (x .next) ws u → Walk t (wordOf b ∷ ws) u
 word-walk t b places {u = u} {ws = ws} e rest =
     let a = taken-admitted t b places e in
     takes (wordOf b) (a .accepted) (a .low) (subst (λ (x : Tracker). Walk x ws u) (next-is t b places e) rest)
 
 -- Of word calls one after the other.
-words-walk : (n : ℕ) (t : Tracker) (b : List ℕ) (places : ℕ) → Walk t (wordsIn (tookIn t b (wordCalls n t b places))) (total t (wordCalls n t b places) .tracker)
+words-walk : (n : ℕ) (t : Tracker) (b : List ℕ) (places : ℕ)
+    → Walk t (wordsIn (tookIn t b (wordCalls n t b places))) (total t (wordCalls n t b places) .tracker)
 unfolding wordCalls tookIn wordsIn total
 words-walk zero t b places = here
 words-walk (suc n) t b places = at (wordCall t (take 10 b) places) (words-walk n) refl
   where
-    at : (o : Outcome) → ((next : Tracker) (l : List ℕ) (p : ℕ) → Walk next (wordsIn (tookIn next l (wordCalls n next l p))) (total next (wordCalls n next l p) .tracker))
+    at : (o : Outcome)
+        → ((next : Tracker) (l : List ℕ) (p : ℕ) → Walk next (wordsIn (tookIn next l (wordCalls n next l p))) (total next (wordCalls n next l p) .tracker))
         → wordCall t (take 10 b) places ≡ o
         → let os = further o (λ next records. wordCalls n next (drop 10 b) (places - length records)) in Walk t (wordsIn (tookIn t b os)) (total t os .tracker)
     at (taken x) rest e = word-walk t (take 10 b) places e (rest (x .next) (drop 10 b) (places - length (x .records)))
@@ -84,12 +85,13 @@ pub call-walk : (t : Tracker) (c : Call) → NoReset c → Walk t (wordsIn (took
 unfolding packetCall tookIn wordsIn
 call-walk t (packet p) _ = at (inRange p) refl
   where
-    at : (b : Bool) → inRange p ≡ b → Walk t [] (cond {A = PacketAnswer} b (record { tracker = acceptOf t p; refusal = 0 }) (record { tracker = t; refusal = 5 }) .tracker)
+    at : (b : Bool) → inRange p ≡ b
+        → Walk t [] (cond {A = PacketAnswer} b (record { tracker = acceptOf t p; refusal = 0 }) (record { tracker = t; refusal = 5 }) .tracker)
     at true e = accepts p e here
     at false e = here
 call-walk t (word b buffer) _ = at (wordCall t b (room buffer)) refl
   where
-    at : (o : Outcome) → wordCall t b (room buffer) ≡ o → Walk t (wordsIn (tookIn t b (o ∷ []))) (Word.answerOf t o .tracker)
+    at : (o : Outcome) → wordCall t b (room buffer) ≡ o → Walk t (wordsIn (tookIn t b (o ∷ []))) (Word.wordAnswer t o .tracker)
     at (taken x) e =
         let ten = take-all 10 b (le-of-eq (taken-admitted t b (room buffer) e .ten)) in
         subst (λ (l : List ℕ). Walk t (wordOf l ∷ []) (x .next)) (sym ten) (word-walk t b (room buffer) e here)

@@ -8,7 +8,7 @@ use Rattle.words.specs.declared.Word.{Word}
 use Rattle.words.specs.Word.{wordBytes, wordOf}
 use Rattle.packet.specs.declared.Packet.{Packet}
 use Rattle.payload_fsm.specs.declared.ItsPayloadWord.{ItsPayloadWord}
-use Rattle.records.specs.Records.{Record, flat, room, over}
+use Rattle.records.specs.Records.{flat, room, over}
 use Rattle.cdp_running.specs.declared.Tracker.{Tracker}
 use Rattle.cdp_running.specs.declared.Told.{Told}
 use Rattle.cdp_running.specs.Tracker.{resetOf, packetCall}
@@ -26,7 +26,7 @@ pub data Call : Type 0 where
 -- The tracker that a call leaves, and that calls leave one after the other.
 abbrev pub after : Tracker → Call → Tracker
 after t (packet p) = packetCall t p .tracker
-after t (word bytes buffer) = Word.answerOf t (wordCall t bytes (room buffer)) .tracker
+after t (word bytes buffer) = Word.wordAnswer t (wordCall t bytes (room buffer)) .tracker
 after t (payload bytes buffer) = payloadCall t bytes (room buffer) .tracker
 after t reset = resetOf t
 
@@ -48,7 +48,7 @@ abbrev pub answer : Tracker → Call → Answer
 answer t (packet p) = packet (packetCall t p .refusal)
 answer t (word bytes buffer) =
     let o = wordCall t bytes (room buffer) in
-    word (Word.answerOf t o .told) (over (flat (Word.recordsIn o)) buffer)
+    word (Word.wordAnswer t o .told) (over (flat (Word.recordsIn o)) buffer)
 answer t (payload bytes buffer) = paid (payloadCall t bytes (room buffer)) buffer
 answer t reset = reset
 

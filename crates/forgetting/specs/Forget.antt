@@ -1,6 +1,6 @@
 -- Promise 3, the past is forgotten in time (docs/RULES.md): what two trackers accept first, what the equal calls are, what they meet, and what then agrees.
 -- Assumes nothing.
-use Prim.Native.Nat.{ℕ, _*_, _/_, _≤_}
+use Prim.Native.Nat.{_*_, _/_, _≤_}
 use mathlib.Core.Path.{_≡_}
 use mathlib.Core.Bool.{Bool, true, false, _&&_, _||_}
 use mathlib.Core.List.{List, [], _∷_, _++_}

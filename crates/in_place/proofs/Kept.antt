@@ -23,7 +23,7 @@ use Rattle.cdp_running.specs.declared.PacketAnswer.{PacketAnswer}
 use Rattle.cdp_running.specs.Tracker.{Good, startOf, resetOf, acceptOf, packetCall}
 use Rattle.cdp_running.specs.Word as Word
 use Rattle.cdp_running.specs.Word.{Outcome, taken, refused, takenAs, wordCall}
-use Rattle.cdp_running.specs.Next.{nextOf}
+use Rattle.cdp_running.specs.Next.{nextTracker}
 use Rattle.cdp_running.proofs.Good.{good-start, good-reset, good-accept, good-next}
 use Rattle.cdp_running.proofs.Outcome.{taken-admitted, next-is}
 use Rattle.payload.specs.Payload.{Run, wordsFrom, payloadCall}
@@ -43,7 +43,7 @@ kept-start s h = (good-start s, record { period = at (s .periodic) h; orbit = om
     at false low = omega arith
 
 -- The orbit of a TDH has 32 bits.
-pub sized-next : (t : Tracker) (w : Word) → Sized t → Sized (nextOf t (takenAs t w) w)
+pub sized-next : (t : Tracker) (w : Word) → Sized t → Sized (nextTracker t (takenAs t w) w)
 sized-next t w s =
     let tdh = isTdh (takenAs t w .word) in
     record {
@@ -60,18 +60,19 @@ module _ (t : Tracker) (k : Kept t) where
   unfolding packetCall
   kept-packet p = at (inRange p) refl
     where
-      at : (b : Bool) → inRange p ≡ b → Kept (cond {A = PacketAnswer} b (record { tracker = acceptOf t p; refusal = 0 }) (record { tracker = t; refusal = 5 }) .tracker)
+      at : (b : Bool) → inRange p ≡ b
+          → Kept (cond {A = PacketAnswer} b (record { tracker = acceptOf t p; refusal = 0 }) (record { tracker = t; refusal = 5 }) .tracker)
       at true e = (good-accept t p (k .0) e, record { period = k .1 .period; orbit = k .1 .orbit; internal-orbit = k .1 .internal-orbit })
       at false e = k
 
-  kept-taken : (bytes : List ℕ) (places : ℕ) (o : Outcome) → wordCall t bytes places ≡ o → Kept (Word.answerOf t o .tracker)
+  kept-taken : (bytes : List ℕ) (places : ℕ) (o : Outcome) → wordCall t bytes places ≡ o → Kept (Word.wordAnswer t o .tracker)
   kept-taken bytes places (taken x) e =
       let w = wordOf bytes in
       let a = taken-admitted t bytes places e in
       subst Kept (sym (next-is t bytes places e)) (good-next t w (k .0) (a .accepted) (a .low), sized-next t w (k .1))
   kept-taken bytes places (refused n) e = k
 
-  pub kept-word : (bytes : List ℕ) (places : ℕ) → Kept (Word.answerOf t (wordCall t bytes places) .tracker)
+  pub kept-word : (bytes : List ℕ) (places : ℕ) → Kept (Word.wordAnswer t (wordCall t bytes places) .tracker)
   kept-word bytes places = kept-taken bytes places (wordCall t bytes places) refl
 
 kept-words : (n : ℕ) (t : Tracker) (bytes : List ℕ) (places : ℕ) → Kept t → Kept (wordsFrom n t bytes places .tracker)

@@ -1,6 +1,6 @@
 -- A data word with a quiet id gives no record, and changes the count and "data seen" alone.
 -- Assumes nothing.
-use Prim.Native.Nat.{ℕ, _+_, _-_, _*_, _/_, _%_, _<_, _^_}
+use Prim.Native.Nat.{ℕ, _+_, _/_, _<_}
 use mathlib.Core.Path.{_≡_, refl, sym, ap, _∙_}
 use mathlib.Core.Bool.{Bool, true, false, cond, not, _&&_, _||_, and-false, true≢false}
 use mathlib.Core.List.{List, []}
@@ -29,7 +29,7 @@ use Rattle.stored.specs.declared.FrameTold.the-variants as F
 use Rattle.validators.specs.DataWords.{dataRows}
 use Rattle.validators.proofs.Lanes.{data-lane}
 use Rattle.cdp_running.specs.declared.Tracker.{Tracker}
-use Rattle.cdp_running.specs.Next.{nextOf}
+use Rattle.cdp_running.specs.Next.{nextTracker}
 use Rattle.cdp_running.specs.Word.{Outcome, taken as taken-as, takenAs, positionNow, rowsOf, wordCall}
 use Rattle.payload.proofs.Run.{silent-call}
 use Rattle.tracker_array.specs.Read.{stateOf}
@@ -110,7 +110,7 @@ module _ (t : Tracker) (w : Word) (among : amongData (t .at .fsm .state) ≡ tru
   pub quiet-silent : silent (rowsOf t (takenAs t w) w) ≡ true
   quiet-silent = rw (as-data w is-data (t .at .fsm .state) among) (rows-silent (t .settings) (t .at .seen) (t .stored .ihw .lanes) (t .stored .cdw) w q)
 
-  pub quiet-next : nextOf t (takenAs t w) w ≡ quietNext t 1
+  pub quiet-next : nextTracker t (takenAs t w) w ≡ quietNext t 1
   quiet-next = simp (as-data w is-data (t .at .fsm .state) among, no-cdw w is-data (t .at .seen))
 
 -- The word call on it.

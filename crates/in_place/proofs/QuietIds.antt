@@ -7,7 +7,7 @@ use native.Mathlib.Nat.{mod-lt, zero-mul, zero-add, zero-div}
 use native.Mathlib.Omega.{arith}
 use lib.Dec.{leb, ltb, eqb}
 use lib.Pow.{split, shr-shr, pow-pos}
-use borrow.Author.Tests.{eqb-true, eqb-false, ltb-true, ltb-false, lt-ltb, le-ltb}
+use borrow.Author.Tests.{eqb-true, eqb-false, ltb-true, ltb-false}
 use Rattle.words.specs.Word.{slice}
 use Rattle.words.proofs.Bits.{low-part, high-part}
 use Rattle.data_ids.proofs.Table.{same-at-ids}

@@ -1,10 +1,10 @@
 -- Runs of quiet data words: what they do to the run of the words after them.
 -- Assumes nothing.
-use Prim.Native.Nat.{ℕ, zero, suc, _+_, _-_, _*_, _/_, _%_, _<_, _≤_}
-use mathlib.Core.Path.{_≡_, refl, sym, ap, _∙_}
-use mathlib.Core.Bool.{Bool, true, true≢false}
+use Prim.Native.Nat.{ℕ, zero, suc, _+_, _-_, _*_, _/_, _<_, _≤_}
+use mathlib.Core.Path.{_≡_, sym, ap, _∙_}
+use mathlib.Core.Bool.{true, true≢false}
 use mathlib.Core.List.{List, []}
-use native.Mathlib.Nat.{zero-add, add-zero, suc-add, add-suc}
+use native.Mathlib.Nat.{zero-add, add-zero, suc-add}
 use native.Mathlib.Numerals.{one-add}
 use native.Mathlib.Omega.{arith}
 use lib.ListN.{length, getD, set, take, drop, length-drop}
@@ -16,7 +16,7 @@ use Rattle.packet.specs.Packet.{maxWords}
 use Rattle.payload_fsm.specs.Step.{amongData}
 use Rattle.cdp_running.specs.declared.Tracker.{Tracker}
 use Rattle.cdp_running.specs.Tracker.{Good}
-use Rattle.payload.specs.Payload.{Run, preceded, wordsFrom}
+use Rattle.payload.specs.Payload.{preceded, wordsFrom}
 use Rattle.payload.proofs.Run.{preceded-twice, silent-step}
 use Rattle.tracker_array.specs.Place as P
 use Rattle.tracker_array.specs.Read.{place}
@@ -58,7 +58,8 @@ module _ (b : List ℕ) (byte : (i : ℕ) → getD b i 0 < 256) where
       ∙ (λ i. preceded 1 [] (wordsFrom n (quiet-next t w among q i) (drop-drop 10 at b i) places))
 
   -- One more than n of them.
-  data-steps : (n m at : ℕ) (t : Tracker) (places : ℕ) → at + 10 * suc n ≤ length b → t .accepted ≡ true → t .at .count + suc n ≤ maxWords → amongData (t .at .fsm .state) ≡ true
+  data-steps : (n m at : ℕ) (t : Tracker) (places : ℕ) → at + 10 * suc n ≤ length b → t .accepted ≡ true → t .at .count + suc n ≤ maxWords
+      → amongData (t .at .fsm .state) ≡ true
       → ((i : ℕ) → i < suc n → quietId (asked t) (idAt b at i) ≡ true)
       → wordsFrom (suc (n + m)) t (drop at b) places ≡ preceded (suc n) [] (wordsFrom m (quietNext t (suc n)) (drop (at + 10 * suc n) b) places)
   data-steps zero m at t places fits have low among each =
@@ -73,7 +74,15 @@ module _ (b : List ℕ) (byte : (i : ℕ) → getD b i 0 < 256) where
       ∙ ap (λ (j : ℕ). preceded 1 [] (wordsFrom j u (drop (at + 10) b) places)) more
       ∙ ap (preceded 1 []) (data-steps n m (at + 10) u places (omega arith) have (omega arith) among (λ i h. further i ∙ each (suc i) (omega arith)))
       ∙ preceded-twice 1 (suc n) [] [] (wordsFrom m (quietNext u (suc n)) (drop (at + 10 + 10 * suc n) b) places)
-      ∙ (λ i. preceded (1 + suc n) [] (wordsFrom m (record { settings = t .settings; accepted = t .accepted; packet = t .packet; at = record { fsm = t .at .fsm; count = many i; seen = true }; stored = t .stored; frame = t .frame }) (drop (place i) b) places))
+      ∙ (λ i. preceded (1 + suc n) [] (wordsFrom m (record {
+        settings =
+            t .settings;
+        accepted = t .accepted;
+        packet = t .packet;
+        at = record { fsm = t .at .fsm; count = many i; seen = true };
+        stored = t .stored;
+        frame = t .frame;
+      }) (drop (place i) b) places))
       ∙ ap (λ (k : ℕ). preceded k [] (wordsFrom m (quietNext t (suc (suc n))) (drop (at + 10 * suc (suc n)) b) places)) (one-add (suc n))
     where
       further : (i : ℕ) → quietId (asked t) (idAt b (at + 10) i) ≡ quietId (asked t) (idAt b at (suc i))
@@ -82,7 +91,8 @@ module _ (b : List ℕ) (byte : (i : ℕ) → getD b i 0 < 256) where
           ap (λ (j : ℕ). quietId (asked t) (getD b j 0)) same
 
   -- A run of quiet data words: what it does to the run of the words after it, whatever room there is.
-  pub quiet-runs : (t : Tracker) (at n : ℕ) → t .accepted ≡ true → at + 10 * suc n ≤ length b → t .at .count + suc n ≤ maxWords → amongData (t .at .fsm .state) ≡ true
+  pub quiet-runs : (t : Tracker) (at n : ℕ) → t .accepted ≡ true → at + 10 * suc n ≤ length b → t .at .count + suc n ≤ maxWords
+      → amongData (t .at .fsm .state) ≡ true
       → ((i : ℕ) → i < suc n → quietId (asked t) (idAt b at i) ≡ true) → (places : ℕ)
       → wordsFrom ((length b - at) / 10) t (drop at b) places
       ≡ preceded (suc n) [] (wordsFrom ((length b - (at + 10 * suc n)) / 10) (quietNext t (suc n)) (drop (at + 10 * suc n) b) places)

@@ -1,6 +1,6 @@
 -- One word on the numbers of a tracker: from what was written and stored to what the word call gives.
 -- Assumes nothing.
-use Prim.Native.Nat.{ℕ, _+_, _*_, _<_, _≤_}
+use Prim.Native.Nat.{ℕ, _+_, _<_, _≤_}
 use mathlib.Core.Path.{_≡_, refl, sym, ap, subst, _∙_}
 use mathlib.Core.Bool.{Bool, true, false, cond}
 use mathlib.Core.List.{List, []}
@@ -11,11 +11,10 @@ use lib.Seq.{take-all}
 use native.Mathlib.Nat.{le-of-eq}
 use borrow.Author.Tests.{le-ltb, eq-eqb, ne-eqb}
 use Rattle.words.specs.declared.Word.{Word}
-use Rattle.words.specs.Word.{wordOf, idOf}
+use Rattle.words.specs.Word.{wordOf}
 use Rattle.words.proofs.Load.{id-byte}
 use Rattle.packet.specs.Packet.{maxWords}
 use Rattle.payload_fsm.specs.declared.ItsPayloadWord.{ItsPayloadWord}
-use Rattle.payload_fsm.specs.declared.ItsPayloadWord.the-variants as K
 use Rattle.payload_fsm.specs.declared.Advanced.{Advanced}
 use Rattle.records.specs.declared.Row.{Row}
 use Rattle.records.specs.declared.Written.{Written}
@@ -24,15 +23,13 @@ use Rattle.records.specs.Records.{given, flat, room, over, exceed, padded, sile
 use Rattle.records.proofs.Given.{given-padded, silent-padded, unheard}
 use Rattle.stored.specs.declared.Frame.{Frame}
 use Rattle.stored.specs.declared.FrameTold.{FrameTold}
-use Rattle.stored.specs.declared.FrameTold.the-variants as F
 use Rattle.stored.specs.Stored.{frameTold, lanesTold}
 use Rattle.cdp_running.specs.declared.Tracker.{Tracker}
 use Rattle.cdp_running.specs.declared.Told.{Told}
 use Rattle.cdp_running.specs.declared.Told.the-variants as T
 use Rattle.cdp_running.specs.declared.WordAnswer.{WordAnswer}
-use Rattle.cdp_running.specs.Tracker.{Good}
-use Rattle.cdp_running.specs.Next.{nextOf}
-use Rattle.cdp_running.specs.Word.{Outcome, taken, refused, takenAs, positionNow, rowsAs, rowsOf, recordsOf, takenAnswer, wordCall, answerOf, recordsIn, WordPost}
+use Rattle.cdp_running.specs.Next.{nextTracker}
+use Rattle.cdp_running.specs.Word.{Outcome, refused, takenAs, positionNow, rowsAs, rowsOf, recordsOf, takenAnswer, wordAnswer, recordsIn, WordPost}
 use Rattle.cdp_running.proofs.Calls.{word-1, word-2, word-3, word-4, word-taken, of-word}
 use Rattle.tracker_array.specs.Array.{encodeOf, isOn}
 use Rattle.tracker_array.specs.Place as P
@@ -53,7 +50,8 @@ quiet-wrote here rows buffer s =
     let fits = le-ltb (room buffer) 0 (omega arith) in
     record { answer = simp (none, fits); number = simp (none, fits); value = simp (none, fits); buffer-is = simp (none, fits) }
 
-pub of-rows : {here : ℕ} {rows other : List Row} {buffer after : List ℕ} {x : Written} → rows ≡ other → WritePost here rows buffer x after → WritePost here other buffer x after
+pub of-rows : {here : ℕ} {rows other : List Row} {buffer after : List ℕ} {x : Written} → rows ≡ other → WritePost here rows buffer x after
+    → WritePost here other buffer x after
 of-rows {here} {rows} {other} {buffer} {after} {x} e w = subst (λ (l : List Row). WritePost here l buffer x after) e w
 
 -- What is asked of the six places is asked of the rows.
@@ -96,28 +94,39 @@ module _ (a : List ℕ) (w : Word) where
     pub step-full : x ≡ NoRoom → StepInPlace a w buffer NoRoom a after
     step-full e = record { wrote = subst (λ (y : Written). WritePost (positionNow t) rows buffer y after) e wrote; numbers = simp (no-room e) }
 
-    pub step-done : {n : ℕ} {l : List ℕ} → x ≡ Records n → l ≡ encodeOf (nextOf t (takenAs t w) w) → StepInPlace a w buffer (Records n) l after
+    pub step-done : {n : ℕ} {l : List ℕ} → x ≡ Records n → l ≡ encodeOf (nextTracker t (takenAs t w) w) → StepInPlace a w buffer (Records n) l after
     step-done e p = record { wrote = subst (λ (y : Written). WritePost (positionNow t) rows buffer y after) e wrote; numbers = simp (has-room e) p }
 
 -- The same, with what the code computed on the way.
-pub as-stored : (t : Tracker) {a : Advanced} {w v : Word} {l : List ℕ} → a ≡ takenAs t w → w ≡ v → l ≡ encodeOf (nextOf t a w) → l ≡ encodeOf (nextOf t (takenAs t v) v)
-as-stored t {a} {w} p q e = e ∙ (λ i. encodeOf (nextOf t (p i) w)) ∙ (λ i. encodeOf (nextOf t (takenAs t (q i)) (q i)))
+pub as-stored : (t : Tracker) {a : Advanced} {w v : Word} {l : List ℕ} → a ≡ takenAs t w → w ≡ v → l ≡ encodeOf (nextTracker t a w) → l
+    ≡ encodeOf (nextTracker t (takenAs t v) v)
+as-stored t {a} {w} p q e = e ∙ (λ i. encodeOf (nextTracker t (p i) w)) ∙ (λ i. encodeOf (nextTracker t (takenAs t (q i)) (q i)))
 
-pub told-is : (t : Tracker) {a : Advanced} {w v : Word} {here n lanes : ℕ} {old : Frame} {frame : FrameTold} → a ≡ takenAs t w → w ≡ v → here ≡ positionNow t → old ≡ t .frame
+pub told-is : (t : Tracker) {a : Advanced} {w v : Word} {here n lanes : ℕ} {old : Frame} {frame : FrameTold} → a ≡ takenAs t w → w ≡ v → here
+    ≡ positionNow t → old ≡ t .frame
     → frame ≡ frameTold (t .settings .frames) (a .word) w here old → lanes ≡ lanesTold (a .word) w
     → T.Taken (record { kind = a .word; guessed = a .guessed; records = n; frame = frame; lanes = lanes }) ≡ takenAnswer t (takenAs t v) v n .told
 told-is t {a} {w} {v} {here} {n} p q h o f l =
     (λ i. T.Taken (record { kind = a .word; guessed = a .guessed; records = n; frame = f i; lanes = l i }))
-    ∙ (λ i. T.Taken (record { kind = a .word; guessed = a .guessed; records = n; frame = frameTold (t .settings .frames) (a .word) w (h i) (o i); lanes = lanesTold (a .word) w }))
+    ∙ (λ i. T.Taken (record {
+      kind =
+          a .word;
+      guessed = a .guessed;
+      records = n;
+      frame = frameTold (t .settings .frames) (a .word) w (h i) (o i);
+      lanes = lanesTold (a .word) w;
+    }))
     ∙ (λ i. takenAnswer t (p i) w n .told)
     ∙ (λ i. takenAnswer t (takenAs t (q i)) (q i) n .told)
 
 pub of-answer : {a buffer after y : List ℕ} {w : Word} {x r : Written} → x ≡ r → StepInPlace a w buffer x after y → StepInPlace a w buffer r after y
 of-answer {a} {buffer} {after} {y} {w} e s = subst (λ (r : Written). StepInPlace a w buffer r after y) e s
 
-pub of-front : (bytes : List ℕ) {a buffer after y : List ℕ} {x r : Written} → length bytes ≡ 10 → x ≡ r → StepInPlace a (wordOf (take 10 (drop 0 bytes))) buffer x after y
+pub of-front : (bytes : List ℕ) {a buffer after y : List ℕ} {x r : Written} → length bytes ≡ 10 → x ≡ r
+    → StepInPlace a (wordOf (take 10 (drop 0 bytes))) buffer x after y
     → StepInPlace a (wordOf bytes) buffer r after y
-of-front bytes {a} {buffer} {after} {y} {x} ten e s = of-answer e (subst (λ (l : List ℕ). StepInPlace a (wordOf l) buffer x after y) (take-all 10 bytes (le-of-eq ten)) s)
+of-front bytes {a} {buffer} {after} {y} {x} ten e s =
+    of-answer e (subst (λ (l : List ℕ). StepInPlace a (wordOf l) buffer x after y) (take-all 10 bytes (le-of-eq ten)) s)
 
 -- What a word call on the tracker gives is what the call on the numbers gives, once they are those of the tracker that it gives.
 pub in-place : {a bytes buffer : List ℕ} {r : WordAnswer} {after buffer-after : List ℕ} → GoodArray a → WordPost (trackerIn a) bytes buffer r buffer-after
@@ -145,10 +154,12 @@ module _ (a bytes buffer : List ℕ) (h : GoodArray a) (ten : length bytes ≡ 1
       let b = eq-eqb _ _ ten in
       word-taken cur bytes buffer (h .good) b have low (of-word cur bytes buffer (h .good) b have low (s .wrote)) refl refl
 
-  pub took-numbers : {n : ℕ} {after buffer-after : List ℕ} → StepInPlace a word buffer (Records n) after buffer-after → after ≡ encodeOf (nextOf cur (takenAs cur word) word)
+  pub took-numbers : {n : ℕ} {after buffer-after : List ℕ} → StepInPlace a word buffer (Records n) after buffer-after → after
+      ≡ encodeOf (nextTracker cur (takenAs cur word) word)
   took-numbers s = let e = has-room a word (s .wrote) refl in simp e at (s .numbers)
 
-  pub denied : {after buffer-after : List ℕ} → StepInPlace a word buffer NoRoom after buffer-after → WordPost cur bytes buffer (answerOf cur (refused 4)) buffer-after
+  pub denied : {after buffer-after : List ℕ} → StepInPlace a word buffer NoRoom after buffer-after
+      → WordPost cur bytes buffer (wordAnswer cur (refused 4)) buffer-after
   denied s =
       let b = eq-eqb _ _ ten in
       word-4 cur bytes buffer (h .good) b have low (of-word cur bytes buffer (h .good) b have low (s .wrote)) refl refl
@@ -161,7 +172,8 @@ module _ (a bytes buffer : List ℕ) (h : GoodArray a) (ten : length bytes ≡ 1
   word-done {n} {told} {after} {buffer-after} s e =
       subst (λ (r : Told). WordInPlace a bytes buffer r after buffer-after) (sym e) (in-place h (took s) (took-numbers s))
 
-  pub word-denied : {after buffer-after : List ℕ} → StepInPlace a word buffer NoRoom after buffer-after → WordInPlace a bytes buffer (T.Refused 4) after buffer-after
+  pub word-denied : {after buffer-after : List ℕ} → StepInPlace a word buffer NoRoom after buffer-after
+      → WordInPlace a bytes buffer (T.Refused 4) after buffer-after
   word-denied s = in-place h (denied s) (denied-numbers s ∙ h .own)
 
   -- A quiet data word.
@@ -175,9 +187,9 @@ module _ (a bytes buffer : List ℕ) (h : GoodArray a) (ten : length bytes ≡ 1
       let call = quiet-call cur bytes ten have low (q .among (λ z. omega arith)) id (room buffer) in
       let numbers =
       p .numbers ∙ ap (λ (n : ℕ). cond (eqb n 0) a (set (set a P.count (place a P.count + n)) P.seen 1)) one ∙ counts a 1 h
-      ∙ sym (ap (λ (o : Outcome). encodeOf (answerOf cur o .tracker)) call) in
+      ∙ sym (ap (λ (o : Outcome). encodeOf (wordAnswer cur o .tracker)) call) in
       record {
-        answer = e ∙ sym (ap (λ (o : Outcome). answerOf cur o .told) call);
+        answer = e ∙ sym (ap (λ (o : Outcome). wordAnswer cur o .told) call);
         numbers = numbers;
         buffer-is = sym (ap (λ (o : Outcome). over (flat (recordsIn o)) buffer) call);
         good = good-after numbers (kept-word cur (h .good, h .sized) bytes (room buffer));
@@ -189,7 +201,8 @@ module _ (a bytes buffer : List ℕ) (h : GoodArray a) (ten : length bytes ≡ 1
     still-takes =
         subst (λ (x : List ℕ). GoodArray x × ((length bytes ≡ 10) × ((isOn (place x P.accepted) ≡ true) × (place x P.count < maxWords)))) (sym (untouched p none)) (h, (ten, (have, low)))
 
-    pub as-before : {told : Told} {after buffer-after : List ℕ} → WordInPlace l bytes buffer told after buffer-after → WordInPlace a bytes buffer told after buffer-after
+    pub as-before : {told : Told} {after buffer-after : List ℕ} → WordInPlace l bytes buffer told after buffer-after
+        → WordInPlace a bytes buffer told after buffer-after
     as-before {told} {after} {buffer-after} w = subst (λ (x : List ℕ). WordInPlace x bytes buffer told after buffer-after) (untouched p none) w
 
 -- Refusals before that.

@@ -3,14 +3,13 @@
 use Prim.Native.Nat.{ℕ, zero, suc, _+_, _-_, _*_, _/_, _%_, _<_, _≤_}
 use mathlib.Core.Path.{_≡_, refl, sym, ap, subst, _∙_}
 use mathlib.Core.Bool.{true, false, cond}
-use mathlib.Core.List.{List, [], _++_}
+use mathlib.Core.List.{List, _++_}
 use native.Mathlib.Omega.{arith}
 use lib.Dec.{eqb}
 use lib.ListN.{length, getD, set, take, drop, length-drop, take-append-drop}
 use lib.Seq.{length-take-le}
 use borrow.Author.Tests.{eq-eqb, ne-eqb}
 use borrow.Rule.Slice.PartMut.{putMid, midOf}
-use Rattle.words.specs.declared.Word.{Word}
 use Rattle.words.specs.Word.{wordOf}
 use Rattle.packet.specs.Packet.{maxWords}
 use Rattle.records.specs.Records.{recordWidth}
@@ -18,9 +17,8 @@ use Rattle.records.specs.declared.Written.the-variants.{Records, NoRoom}
 use Rattle.records.proofs.Buffer.{mid-tail}
 use Rattle.cdp_running.specs.declared.Tracker.{Tracker}
 use Rattle.cdp_running.specs.declared.WordAnswer.{WordAnswer}
-use Rattle.cdp_running.specs.Tracker.{Good}
-use Rattle.cdp_running.specs.Next.{nextOf}
-use Rattle.cdp_running.specs.Word.{takenAs, refused, takenAnswer, answerOf, WordPost}
+use Rattle.cdp_running.specs.Next.{nextTracker}
+use Rattle.cdp_running.specs.Word.{takenAs, refused, wordAnswer, WordPost}
 use Rattle.cdp_running.proofs.Calls.{word-3}
 use Rattle.payload.specs.declared.PayloadAnswer.{PayloadAnswer}
 use Rattle.payload.specs.Payload.{PayloadPost}
@@ -50,7 +48,8 @@ pub record Walk (a₀ b out₀ a out : List ℕ) (at used : ℕ) : Type 0 where
 
 module _ {a₀ b out₀ : List ℕ} where
   -- Numbers of a tracker at which the payload's loop can stand.
-  at-tracker : {a out : List ℕ} {at used : ℕ} (v : Tracker) → a ≡ encodeOf v → Sized v → Going (trackerIn a₀) b out₀ out v at used → Walk a₀ b out₀ a out at used
+  at-tracker : {a out : List ℕ} {at used : ℕ} (v : Tracker) → a ≡ encodeOf v → Sized v → Going (trackerIn a₀) b out₀ out v at used
+      → Walk a₀ b out₀ a out at used
   at-tracker {a} {out} {at} {used} v e s g =
       record {
         going = subst (λ (x : Tracker). Going (trackerIn a₀) b out₀ out x at used) (sym (ap trackerIn e ∙ reads-back v)) g;
@@ -63,7 +62,8 @@ module _ {a₀ b out₀ : List ℕ} where
 
   -- What a payload call tells, from what it comes to.
   told-it : {a out : List ℕ} {words records n : ℕ} {r : PayloadTold} → r ≡ record { words = words; records = records; refusal = n } → GoodArray a
-      → PayloadPost (trackerIn a₀) b out₀ (record { tracker = trackerIn a; words = words; records = records; refusal = n }) out → PayloadInPlace a₀ b out₀ r a out
+      → PayloadPost (trackerIn a₀) b out₀ (record { tracker = trackerIn a; words = words; records = records; refusal = n }) out
+      → PayloadInPlace a₀ b out₀ r a out
   told-it e h p =
       record {
         answer = e ∙ ap (λ (x : PayloadAnswer). record { words = x .words; records = x .records; refusal = x .refusal }) (p .answer);
@@ -72,14 +72,17 @@ module _ {a₀ b out₀ : List ℕ} where
         good = h;
       }
 
-  pub payload-1 : {r : PayloadTold} → GoodArray a₀ → (length b % 10 ≡ 0 → ⊥) → r ≡ record { words = 0; records = 0; refusal = 1 } → PayloadInPlace a₀ b out₀ r a₀ out₀
+  pub payload-1 : {r : PayloadTold} → GoodArray a₀ → (length b % 10 ≡ 0 → ⊥) → r ≡ record { words = 0; records = 0; refusal = 1 }
+      → PayloadInPlace a₀ b out₀ r a₀ out₀
   payload-1 h e p = told-it p h (refused-1 (h .good) e)
 
-  pub payload-2 : {r : PayloadTold} → GoodArray a₀ → length b % 10 ≡ 0 → isOn (place a₀ P.accepted) ≡ false → r ≡ record { words = 0; records = 0; refusal = 2 } → PayloadInPlace a₀ b out₀ r a₀ out₀
+  pub payload-2 : {r : PayloadTold} → GoodArray a₀ → length b % 10 ≡ 0 → isOn (place a₀ P.accepted) ≡ false → r
+      ≡ record { words = 0; records = 0; refusal = 2 } → PayloadInPlace a₀ b out₀ r a₀ out₀
   payload-2 h whole e p = told-it p h (refused-2 (h .good) whole e)
 
   module _ {a out : List ℕ} {at used : ℕ} (k : Walk a₀ b out₀ a out at used) where
-    pub payload-0 : {r : PayloadTold} → length b ≤ at → r ≡ record { words = at / 10; records = used / recordWidth; refusal = 0 } → PayloadInPlace a₀ b out₀ r a out
+    pub payload-0 : {r : PayloadTold} → length b ≤ at → r ≡ record { words = at / 10; records = used / recordWidth; refusal = 0 }
+        → PayloadInPlace a₀ b out₀ r a out
     payload-0 past p = told-it p (k .good) (ended (k .going) past)
 
     -- Quiet data words, however many.
@@ -125,9 +128,10 @@ module _ {a₀ b out₀ : List ℕ} where
       on-part : {r : WordAnswer} {y : List ℕ} → WordPost (trackerIn a) bytes tail r y → WordPost (trackerIn a) (take 10 (midOf at (length b - at) b)) tail r y
       on-part {r} {y} w = subst (λ (l : List ℕ). WordPost (trackerIn a) (take 10 l) tail r y) (sym (mid-tail at b)) w
 
-      pub payload-3 : {r : PayloadTold} → maxWords ≤ place a P.count → r ≡ record { words = at / 10; records = used / recordWidth; refusal = 3 } → PayloadInPlace a₀ b out₀ r a out
+      pub payload-3 : {r : PayloadTold} → maxWords ≤ place a P.count → r ≡ record { words = at / 10; records = used / recordWidth; refusal = 3 }
+          → PayloadInPlace a₀ b out₀ r a out
       payload-3 h p =
-          let w : WordPost (trackerIn a) bytes tail (answerOf (trackerIn a) (refused 3)) tail = word-3 (trackerIn a) bytes tail (k .good .good) (eq-eqb _ _ ten) (k .going .ready .accepted) h refl in
+          let w : WordPost (trackerIn a) bytes tail (wordAnswer (trackerIn a) (refused 3)) tail = word-3 (trackerIn a) bytes tail (k .good .good) (eq-eqb _ _ ten) (k .going .ready .accepted) h refl in
           told-it p (k .good)
           (subst (λ (l : List ℕ). PayloadPost (trackerIn a₀) b out₀ (record { tracker = trackerIn a; words = at / 10; records = used / recordWidth; refusal = 3 }) l) (back used (length out - used) out)
           (stopped (k .going) lt (on-part w) refl))
@@ -138,10 +142,11 @@ module _ {a₀ b out₀ : List ℕ} where
         walk-word s kept =
             let u = trackerIn a in
             let w = wordOf bytes in
-            at-tracker (nextOf u (takenAs u w) w) (took-numbers a bytes tail (k .good) ten (k .going .ready .accepted) low s) (sized-next u w (k .good .sized))
+            at-tracker (nextTracker u (takenAs u w) w) (took-numbers a bytes tail (k .good) ten (k .going .ready .accepted) low s) (sized-next u w (k .good .sized))
             (Loop.next (k .going) lt (on-part (took a bytes tail (k .good) ten (k .going .ready .accepted) low s)) kept refl)
 
-        pub payload-4 : {r : PayloadTold} → StepInPlace a (wordOf bytes) tail NoRoom l y → r ≡ record { words = at / 10; records = used / recordWidth; refusal = 4 }
+        pub payload-4 : {r : PayloadTold} → StepInPlace a (wordOf bytes) tail NoRoom l y → r
+            ≡ record { words = at / 10; records = used / recordWidth; refusal = 4 }
             → PayloadInPlace a₀ b out₀ r l (putMid used (length out - used) out y)
         payload-4 {r} s p =
             let same = denied-numbers a bytes tail (k .good) ten (k .going .ready .accepted) low s in

@@ -12,8 +12,8 @@ use Rattle.records.specs.declared.Written.{Written}
 use Rattle.records.specs.Records.{padded, flat, room, over, exceed, WritePost}
 use Rattle.cdp_running.specs.declared.Told.{Told}
 use Rattle.cdp_running.specs.Tracker.{resetOf, packetCall}
-use Rattle.cdp_running.specs.Next.{nextOf}
-use Rattle.cdp_running.specs.Word.{takenAs, positionNow, rowsOf, recordsOf, wordCall, answerOf, recordsIn}
+use Rattle.cdp_running.specs.Next.{nextTracker}
+use Rattle.cdp_running.specs.Word.{takenAs, positionNow, rowsOf, recordsOf, wordCall, wordAnswer, recordsIn}
 use Rattle.payload.specs.Payload.{Run, payloadCall}
 use Rattle.tracker_array.specs.Array.{encodeOf}
 use Rattle.tracker_array.specs.Read.{trackerIn}
@@ -30,8 +30,8 @@ pub record ResetInPlace (a after : List ℕ) : Type 0 where
   pub good : GoodArray after
 
 pub record WordInPlace (a bytes buffer : List ℕ) (r : Told) (after buffer-after : List ℕ) : Type 0 where
-  pub answer : r ≡ answerOf (trackerIn a) (wordCall (trackerIn a) bytes (room buffer)) .told
-  pub numbers : after ≡ encodeOf (answerOf (trackerIn a) (wordCall (trackerIn a) bytes (room buffer)) .tracker)
+  pub answer : r ≡ wordAnswer (trackerIn a) (wordCall (trackerIn a) bytes (room buffer)) .told
+  pub numbers : after ≡ encodeOf (wordAnswer (trackerIn a) (wordCall (trackerIn a) bytes (room buffer)) .tracker)
   pub buffer-is : buffer-after ≡ over (flat (recordsIn (wordCall (trackerIn a) bytes (room buffer)))) buffer
   pub good : GoodArray after
 
@@ -48,4 +48,4 @@ pub record PayloadInPlace (a bytes buffer : List ℕ) (r : PayloadTold) (after b
 -- One word that the packet still takes: its records are written, and the numbers are those of the tracker after it; with no room for them both stay.
 pub record StepInPlace (a : List ℕ) (w : Word) (buffer : List ℕ) (r : Written) (after buffer-after : List ℕ) : Type 0 where
   pub wrote : WritePost (positionNow (trackerIn a)) (padded (rowsOf (trackerIn a) (takenAs (trackerIn a) w) w)) buffer r buffer-after
-  pub numbers : after ≡ cond (exceed (recordsOf (trackerIn a) w) (room buffer)) a (encodeOf (nextOf (trackerIn a) (takenAs (trackerIn a) w) w))
+  pub numbers : after ≡ cond (exceed (recordsOf (trackerIn a) w) (room buffer)) a (encodeOf (nextTracker (trackerIn a) (takenAs (trackerIn a) w) w))

@@ -27,7 +27,7 @@ ihwStores w a = sets a P.ihw (1 ∷ activeLanes w ∷ [])
 -- The TDH; where it is internal its crossing and its orbit; and a frame's start, where one opens here.
 abbrev pub tdhStores : Word → ℕ → List ℕ → List ℕ
 tdhStores w here a =
-    putIf (isOn (place a P.frames) && (not (isOn (place a P.live)) && eqb (continuation w) 0)) P.frame (1 ∷ here ∷ [])
+    putIf (isOn (place a P.frames) && (not (isOn (place a P.opened)) && eqb (continuation w) 0)) P.frame (1 ∷ here ∷ [])
     (putIf (eqb (internalTrigger w) 1) P.internal (1 ∷ triggerBc w ∷ triggerOrbit w ∷ [])
     (sets a P.tdh (1 ∷ triggerType w ∷ triggerBc w ∷ triggerOrbit w ∷ [])))
 

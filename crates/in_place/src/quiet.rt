@@ -1,9 +1,7 @@
 // Runs of quiet words: data words whose id alone tells that they give no record. Nearly all words of a clean page are such. Any other word without a record is
 // silent (`records::silent`), which its rows tell.
 ghost use mathlib.Core.Path.{_≡_};
-ghost use mathlib.Core.Bool.{_||_};
 ghost use Prim.Native.Nat.{_+_, _-_, _%_, _≤_, min};
-ghost use lib.Dec.{eqb};
 ghost use lib.ListN.{length};
 ghost use Rattle.words.specs.Word.{wordBytes};
 ghost use Rattle.payload_fsm.specs.Step.{amongData};

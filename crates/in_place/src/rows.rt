@@ -63,7 +63,7 @@ fn rows(a: &[u64], taken: Advanced, word: Word) -> [Row; MOST_RECORDS]
             word,
         ),
         ItsPayloadWord::Tdt => {
-            validators::tdt::check(read::settings(a), a[place::LIVE] == 1, word)
+            validators::tdt::check(read::settings(a), a[place::OPENED] == 1, word)
         }
         ItsPayloadWord::Ddw0 => validators::ddw::check_at_ddw0(
             read::settings(a),
@@ -113,7 +113,7 @@ fn is_silent(a: &[u64], taken: Advanced, word: Word) -> bool
         ItsPayloadWord::DataWord | ItsPayloadWord::Cdw => false,
         ItsPayloadWord::Tdt => records::silent(validators::tdt::check(
             read::settings(a),
-            a[place::LIVE] == 1,
+            a[place::OPENED] == 1,
             word,
         )),
         ItsPayloadWord::Ddw0 => records::silent(validators::ddw::check_at_ddw0(

@@ -8,7 +8,7 @@ ghost use lib.Seq.{sets};
 ghost use Rattle.words.specs.Tdh.{triggerType, triggerBc, triggerOrbit};
 ghost use Rattle.packet.specs.Packet.{maxWords};
 ghost use Rattle.cdp_running.specs.Tracker.{acceptOf};
-ghost use Rattle.cdp_running.specs.Next.{nextOf};
+ghost use Rattle.cdp_running.specs.Next.{nextTracker};
 ghost use Rattle.cdp_running.specs.Word.{positionNow};
 ghost use Rattle.tracker_array.specs.Array.{size, stateNumber, encodeOf};
 ghost use Rattle.tracker_array.specs.Place as P;
@@ -80,10 +80,10 @@ fn tdh(a: &mut [u64], word: Word, here: u64)
     let orbit = tdh.trigger_orbit() as u64;
     let first = tdh.continuation() == 0;
     let internal = tdh.internal_trigger() == 1;
-    let opens = (a[place::FRAMES] == 1) & (!(a[place::LIVE] == 1) & first);
+    let opens = (a[place::FRAMES] == 1) & (!(a[place::OPENED] == 1) & first);
     tdh_fields(a, word);
     put_three_if(internal, place::INTERNAL, 1, bc, orbit, a);
-    put_if(opens, place::LIVE, 1, here, a);
+    put_if(opens, place::OPENED, 1, here, a);
 }
 
 fn data(a: &mut [u64], word: Word)
@@ -103,11 +103,11 @@ fn tdt(a: &mut [u64], word: Word)
     let tdt = Tdt { word: word };
     let done = tdt.packet_done();
     let closes = (a[place::FRAMES] == 1) & done;
-    put_if(closes, place::LIVE, 0, 0, a);
+    put_if(closes, place::OPENED, 0, 0, a);
 }
 
-// State and count.
-fn moved(a: &mut [u64], state: State)
+// The next state, and one word more.
+fn to_state(a: &mut [u64], state: State)
     requires { ⌜ length (now a) ≡ size ⌝ }
     requires { ⌜ place (now a) P.count < maxWords ⌝ }
     ensures { λ _. ⌜ now (a .exit) ≡ sets (now (a .entry)) P.reached (stateNumber state ∷ (place (now (a .entry)) P.count + 1) ∷ []) ⌝ }
@@ -122,12 +122,12 @@ pub(crate) fn word(a: &mut [u64], taken: Advanced, word: Word, here: u64)
     requires { ⌜ GoodArray (now a) ⌝ }
     requires { ⌜ place (now a) P.count < maxWords ⌝ }
     requires { ⌜ here ≡ positionNow (trackerIn (now a)) ⌝ }
-    ensures { λ _. ⌜ now (a .exit) ≡ encodeOf (nextOf (trackerIn (now (a .entry))) taken word) ⌝ }
+    ensures { λ _. ⌜ now (a .exit) ≡ encodeOf (nextTracker (trackerIn (now (a .entry))) taken word) ⌝ }
 {
     let fsm = taken.fsm;
     let state = fsm.state;
     let kind = taken.word;
-    moved(a, state);
+    to_state(a, state);
     match kind {
         ItsPayloadWord::Ihw => ihw(a, word),
         ItsPayloadWord::IhwContinuation => ihw(a, word),

@@ -54,7 +54,8 @@ module _ (a : List ℕ) (s : Asked) where
     pub settings-fit : not r ≡ false → isOn (s .periodic) ≡ true → s .period ≤ maxPeriod
     settings-fit e = period-fits s (sym asked ∙ not-false r e)
 
-    pub start-done : {t : Tracker} {n : ℕ} {rule : Rule} {after : List ℕ} → not r ≡ false → n ≡ cond (isOn (s .periodic)) (s .period) 0 → rule ≡ ruleOf (s .rule)
+    pub start-done : {t : Tracker} {n : ℕ} {rule : Rule} {after : List ℕ} → not r ≡ false → n ≡ cond (isOn (s .periodic)) (s .period) 0 → rule
+        ≡ ruleOf (s .rule)
         → t ≡ startOf (record { running = isOn (s .running); frames = isOn (s .frames); periodic = isOn (s .periodic); period = n; rule = rule })
         → after ≡ writtenTo a t → StartOn a s 0 after
     start-done {t} {n} e k j p q =
@@ -110,8 +111,8 @@ module _ (a : List ℕ) {r : Bool} (asked : r ≡ isTracker a) where
         → n ≡ toldNumbers told → WordOn a bytes buffer n after buffer-after
     word-done {bytes} {buffer} w p =
         record {
-          answer = is (λ t. toldNumbers (Word.answerOf t (wordCall t bytes (room buffer)) .told)) (p ∙ ap toldNumbers (w .answer));
-          tracker = is (λ t. encodeOf (Word.answerOf t (wordCall t bytes (room buffer)) .tracker)) (w .numbers);
+          answer = is (λ t. toldNumbers (Word.wordAnswer t (wordCall t bytes (room buffer)) .told)) (p ∙ ap toldNumbers (w .answer));
+          tracker = is (λ t. encodeOf (Word.wordAnswer t (wordCall t bytes (room buffer)) .tracker)) (w .numbers);
           buffer-is = is (λ t. over (flat (recordsIn (wordCall t bytes (room buffer)))) buffer) (w .buffer-is);
         }
 
@@ -120,7 +121,7 @@ module _ (a : List ℕ) {r : Bool} (asked : r ≡ isTracker a) where
     payload-done {bytes} {buffer} w =
         record {
           answer =
-              is (λ t. paidNumbers (Payload.answerOf (payloadCall t bytes (room buffer))))
+              is (λ t. paidNumbers (Payload.payloadAnswer (payloadCall t bytes (room buffer))))
               (ap (λ (x : PayloadTold). record { refusal = x .refusal; words = x .words; records = x .records }) (w .answer));
           tracker = is (λ t. encodeOf (payloadCall t bytes (room buffer) .tracker)) (w .numbers);
           buffer-is = is (λ t. over (flat (payloadCall t bytes (room buffer) .records)) buffer) (w .buffer-is);

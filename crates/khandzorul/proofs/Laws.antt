@@ -1,6 +1,6 @@
 -- Laws of the exported functions: a tracker stays one, and a refusal writes nothing.
 -- Assumes nothing.
-use Prim.Native.Nat.{ℕ, zero, suc, _/_, _%_, _<_, _^_}
+use Prim.Native.Nat.{ℕ, zero, suc, _/_, _%_}
 use mathlib.Core.Path.{_≡_, refl, sym, ap, subst, _∙_}
 use mathlib.Core.Bool.{Bool, true, false, cond}
 use mathlib.Core.List.{List, []}
@@ -47,7 +47,7 @@ module _ (a : List ℕ) (t : Tracker) (i : IsTracker a t) where
   reset-holds w = again (w .tracker .is t i) (kept-reset t kept)
 
   pub word-holds : (bytes buffer : List ℕ) {r : WordNumbers} {after buffer-after : List ℕ} → WordOn a bytes buffer r after buffer-after
-      → IsTracker after (Word.answerOf t (wordCall t bytes (room buffer)) .tracker)
+      → IsTracker after (Word.wordAnswer t (wordCall t bytes (room buffer)) .tracker)
   word-holds bytes buffer w = again (w .tracker .is t i) (kept-word t kept bytes (room buffer))
 
   pub payload-holds : (bytes buffer : List ℕ) {r : PayloadNumbers} {after buffer-after : List ℕ} → PayloadOn a bytes buffer r after buffer-after
@@ -58,7 +58,8 @@ module _ (a : List ℕ) (t : Tracker) (i : IsTracker a t) where
 pub start-refused : (a : List ℕ) (s : Asked) {r : ℕ} {after : List ℕ} → StartOn a s r after → (r ≡ 0 → ⊥) → after ≡ a
 start-refused a s {r} {after} w h = at (eqb (length a) size) (areSettings s) (w .answer) (w .tracker)
   where
-    at : (long are : Bool) → r ≡ cond long (cond are 0 noSettings) noTracker → after ≡ cond are (cond long (encodeOf (startOf (settingsFrom s))) a) a → after ≡ a
+    at : (long are : Bool) → r ≡ cond long (cond are 0 noSettings) noTracker → after ≡ cond are (cond long (encodeOf (startOf (settingsFrom s))) a) a
+        → after ≡ a
     at true true p q = absurd (h p)
     at true false p q = q
     at false true p q = q
@@ -127,7 +128,8 @@ none-paid t bytes places = at (eqb (length bytes % 10) 0) (t .accepted)
     at false have z = stopped t 1
 
 -- A payload that took no word leaves both arrays.
-pub payload-refused : (a bytes buffer : List ℕ) {r : PayloadNumbers} {after buffer-after : List ℕ} → PayloadOn a bytes buffer r after buffer-after → r .words ≡ 0
+pub payload-refused : (a bytes buffer : List ℕ) {r : PayloadNumbers} {after buffer-after : List ℕ} → PayloadOn a bytes buffer r after buffer-after
+    → r .words ≡ 0
     → (after ≡ a) × (buffer-after ≡ buffer)
 unfolding flat Stays
 payload-refused a bytes buffer {r} {after} {buffer-after} w z = at (decide a)

@@ -73,12 +73,12 @@ pub record ResetOn (a : List ℕ) (r : ℕ) (after : List ℕ) : Type 0 where
 
 -- khz_word
 pub record WordOn (a bytes buffer : List ℕ) (r : WordNumbers) (after buffer-after : List ℕ) : Type 0 where
-  pub answer : On a r (toldNumbers (Refused noTracker)) (λ t. toldNumbers (Word.answerOf t (wordCall t bytes (room buffer)) .told))
-  pub tracker : On a after a (λ t. encodeOf (Word.answerOf t (wordCall t bytes (room buffer)) .tracker))
+  pub answer : On a r (toldNumbers (Refused noTracker)) (λ t. toldNumbers (Word.wordAnswer t (wordCall t bytes (room buffer)) .told))
+  pub tracker : On a after a (λ t. encodeOf (Word.wordAnswer t (wordCall t bytes (room buffer)) .tracker))
   pub buffer-is : On a buffer-after buffer (λ t. over (flat (recordsIn (wordCall t bytes (room buffer)))) buffer)
 
 -- khz_payload
 pub record PayloadOn (a bytes buffer : List ℕ) (r : PayloadNumbers) (after buffer-after : List ℕ) : Type 0 where
-  pub answer : On a r (record { refusal = noTracker; words = 0; records = 0 }) (λ t. paidNumbers (Payload.answerOf (payloadCall t bytes (room buffer))))
+  pub answer : On a r (record { refusal = noTracker; words = 0; records = 0 }) (λ t. paidNumbers (Payload.payloadAnswer (payloadCall t bytes (room buffer))))
   pub tracker : On a after a (λ t. encodeOf (payloadCall t bytes (room buffer) .tracker))
   pub buffer-is : On a buffer-after buffer (λ t. over (flat (payloadCall t bytes (room buffer) .records)) buffer)

@@ -22,7 +22,7 @@ use Rattle.cdp_running.specs.Tracker.{Good}
 use Rattle.cdp_running.specs.Word as W
 use Rattle.cdp_running.specs.Word.{TakenWord, Outcome, taken, refused, wordCall, recordsIn, WordPost}
 use Rattle.cdp_running.proofs.Outcome.{next-is}
-use Rattle.payload.specs.Payload.{Run, stop, preceded, onward, wordsFrom, payloadCall, answerOf, PayloadPost}
+use Rattle.payload.specs.Payload.{Run, stop, preceded, onward, wordsFrom, payloadCall, PayloadPost}
 use Rattle.payload.proofs.Run.{preceded-twice, preceded-none}
 
 -- A place between two words of a payload, and a tracker that has a packet.
@@ -56,7 +56,7 @@ record Took (o : Outcome) (r : WordAnswer) (n : ℕ) : Type 0 where
 told-same : {x y : Taken} → T.Taken x ≡ T.Taken y → x ≡ y
 told-same e = cc
 
-took : (t : Tracker) (o : Outcome) {r : WordAnswer} {told : Taken} → r ≡ W.answerOf t o → r .told ≡ T.Taken told → Took o r (told .records)
+took : (t : Tracker) (o : Outcome) {r : WordAnswer} {told : Taken} → r ≡ W.wordAnswer t o → r .told ≡ T.Taken told → Took o r (told .records)
 took t (taken x) e q =
     let same = told-same (sym q ∙ ap (λ (r : WordAnswer). r .told) e) in
     record { word = x; is = refl; next = ap (λ (r : WordAnswer). r .tracker) e; count = ap (λ (y : Taken). y .records) same }
@@ -66,14 +66,16 @@ took t (refused m) e q = absurd (true≢false (ap isTaken (sym q ∙ ap (λ (r :
     isTaken (T.Taken x) = true
     isTaken (T.Refused n) = false
 
-denied : (t : Tracker) (o : Outcome) {r : WordAnswer} {n : ℕ} → r ≡ W.answerOf t o → r .told ≡ T.Refused n → (o ≡ refused n) × (r .tracker ≡ t)
+denied : (t : Tracker) (o : Outcome) {r : WordAnswer} {n : ℕ} → r ≡ W.wordAnswer t o → r .told ≡ T.Refused n → (o ≡ refused n) × (r .tracker ≡ t)
 denied t (taken x) e q = (cc, cc)
 denied t (refused m) e q = (cc, cc)
 
 module _ {t : Tracker} {b out₀ : List ℕ} where
   -- The contract, from what the payload call comes to.
-  post : {cur : Tracker} {words count n : ℕ} {out : List ℕ} (rs : List Record) → payloadCall t b (room out₀) ≡ record { tracker = cur; words = words; records = rs; refusal = n }
-      → count ≡ length rs → out ≡ over (flat rs) out₀ → Good cur → PayloadPost t b out₀ (record { tracker = cur; words = words; records = count; refusal = n }) out
+  post : {cur : Tracker} {words count n : ℕ} {out : List ℕ} (rs : List Record) → payloadCall t b (room out₀)
+      ≡ record { tracker = cur; words = words; records = rs; refusal = n }
+      → count ≡ length rs → out ≡ over (flat rs) out₀ → Good cur
+      → PayloadPost t b out₀ (record { tracker = cur; words = words; records = count; refusal = n }) out
   post rs run counted written good = record { answer = rw (run, counted); buffer-is = rw run written; good = good }
 
   -- A payload that is refused before its first word.
@@ -98,7 +100,8 @@ module _ {t : Tracker} {b out₀ : List ℕ} where
     tail = midOf used (length out - used) out
 
     -- Words taken from here on, with their records: the invariant after them.
-    further : {out′ : List ℕ} {u : Tracker} {to used′ : ℕ} (k : ℕ) (new : List Record) → Ready u b to → at / 10 + k ≡ to / 10 → used′ ≡ used + recordWidth * length new
+    further : {out′ : List ℕ} {u : Tracker} {to used′ : ℕ} (k : ℕ) (new : List Record) → Ready u b to → at / 10 + k ≡ to / 10 → used′
+        ≡ used + recordWidth * length new
         → out′ ≡ over (flat (g .rs ++ new)) out₀ → length out′ ≡ length out → runFrom b places cur at ≡ preceded k new (runFrom b (places - length new) u to)
         → Going t b out₀ out′ u to used′
     further {out′} {u} {to} {used′} k new ready words more after same runs =
@@ -117,9 +120,11 @@ module _ {t : Tracker} {b out₀ : List ℕ} where
         }
 
     -- Words that gave no record.
-    pub further-silent : {u : Tracker} (k : ℕ) → Ready u b (at + 10 * k) → ((places : ℕ) → runFrom b places cur at ≡ preceded k [] (runFrom b places u (at + 10 * k)))
+    pub further-silent : {u : Tracker} (k : ℕ) → Ready u b (at + 10 * k)
+        → ((places : ℕ) → runFrom b places cur at ≡ preceded k [] (runFrom b places u (at + 10 * k)))
         → Going t b out₀ out u (at + 10 * k) used
-    further-silent k ready runs = further k [] ready (omega (arith, g .ready .between)) (omega arith) (rw append-nil (g .buffer-is)) refl (simp sub-zero (runs places))
+    further-silent k ready runs =
+        further k [] ready (omega (arith, g .ready .between)) (omega arith) (rw append-nil (g .buffer-is)) refl (simp sub-zero (runs places))
 
     pub used-low : used ≤ length out
     used-low = let fits = over-fits (flat (g .rs)) out₀ (sym (ap length (g .buffer-is)) ∙ g .same) in omega arith
@@ -129,7 +134,8 @@ module _ {t : Tracker} {b out₀ : List ℕ} where
     room-left = omega (arith, length-flat (g .rs), ap length (mid-tail used out) ∙ length-drop used out)
 
     -- What a payload comes to where its words stopped here.
-    met : (n : ℕ) → runFrom b places cur at ≡ stop cur n → PayloadPost t b out₀ (record { tracker = cur; words = at / 10; records = used / recordWidth; refusal = n }) out
+    met : (n : ℕ) → runFrom b places cur at ≡ stop cur n
+        → PayloadPost t b out₀ (record { tracker = cur; words = at / 10; records = used / recordWidth; refusal = n }) out
     unfolding payloadCall
     met n stops =
         let run = g .comes ∙ ap (preceded (at / 10) (g .rs)) stops ∙ (λ i. record { tracker = cur; words = add-zero (at / 10) i; records = append-nil (g .rs) i; refusal = n }) in
@@ -154,7 +160,8 @@ module _ {t : Tracker} {b out₀ : List ℕ} where
       after : putMid used (length out - used) out y ≡ over (flat (g .rs ++ recordsIn outcome)) out₀
       after = rw flat-append (lent-on used (flat (g .rs)) (flat (recordsIn outcome)) out₀ out y (g .used-is) (g .buffer-is) (rw same-call at (w .buffer-is)))
 
-      onwards : {o : Outcome} → outcome ≡ o → runFrom b places cur at ≡ onward cur o (λ next records. preceded 1 records (runFrom b (places - length records) next (at + 10)))
+      onwards : {o : Outcome} → outcome ≡ o → runFrom b places cur at
+          ≡ onward cur o (λ next records. preceded 1 records (runFrom b (places - length records) next (at + 10)))
       unfolding wordsFrom
       onwards e =
           let left : (length b - at) / 10 ≡ suc ((length b - (at + 10)) / 10) = omega (arith, g .ready .whole, g .ready .between) in

@@ -1,8 +1,8 @@
 -- Laws of words one after the other: a word that is taken, one that is refused, and one that gives no record.
 -- Assumes nothing.
 use Prim.Native.Nat.{ℕ, suc, _+_, _-_, _<_}
-use mathlib.Core.Path.{_≡_, refl, sym, ap, _∙_}
-use mathlib.Core.Bool.{Bool, true, false}
+use mathlib.Core.Path.{_≡_, sym, ap, _∙_}
+use mathlib.Core.Bool.{true}
 use mathlib.Core.List.{List, [], _++_, append-assoc}
 use native.Mathlib.Nat.{add-assoc, zero-add, sub-zero}
 use native.Mathlib.Omega.{arith}
@@ -10,13 +10,11 @@ use borrow.Author.Tests.{lt-leb, le-ltb, eq-eqb}
 use lib.ListN.{length, take, drop}
 use Rattle.words.specs.Word.{wordOf}
 use Rattle.packet.specs.Packet.{maxWords}
-use Rattle.payload_fsm.specs.declared.ItsPayloadWord.{ItsPayloadWord}
 use Rattle.records.specs.Records.{Record, silent}
 use Rattle.records.proofs.Given.{unheard}
-use Rattle.stored.specs.declared.FrameTold.{FrameTold}
 use Rattle.stored.specs.Stored.{frameTold, lanesTold}
 use Rattle.cdp_running.specs.declared.Tracker.{Tracker}
-use Rattle.cdp_running.specs.Next.{nextOf}
+use Rattle.cdp_running.specs.Next.{nextTracker}
 use Rattle.cdp_running.specs.Word.{takenAs, positionNow, rowsOf, recordsOf, TakenWord, taken, refused, takenOf, wordCall}
 use Rattle.payload.specs.Payload.{Run, stop, preceded, wordsFrom}
 
@@ -25,7 +23,8 @@ pub step-taken : (n : ℕ) (t : Tracker) (b : List ℕ) (places : ℕ) {x : Take
 unfolding wordsFrom
 step-taken n t b places e = simp e
 
-pub step-refused : (n : ℕ) (t : Tracker) (b : List ℕ) (places : ℕ) {number : ℕ} → wordCall t (take 10 b) places ≡ refused number → wordsFrom (suc n) t b places ≡ stop t number
+pub step-refused : (n : ℕ) (t : Tracker) (b : List ℕ) (places : ℕ) {number : ℕ} → wordCall t (take 10 b) places ≡ refused number
+    → wordsFrom (suc n) t b places ≡ stop t number
 unfolding wordsFrom
 step-refused n t b places e = simp e
 
@@ -42,7 +41,7 @@ module _ (t : Tracker) (bytes : List ℕ) (ten : length bytes ≡ 10) (have : t 
   pub silent-call : (places : ℕ) → wordCall t bytes places
       ≡ taken
       (record {
-        next = nextOf t (takenAs t (wordOf bytes)) (wordOf bytes);
+        next = nextTracker t (takenAs t (wordOf bytes)) (wordOf bytes);
         records = [];
         kind = takenAs t (wordOf bytes) .word;
         guessed = takenAs t (wordOf bytes) .guessed;
@@ -56,8 +55,8 @@ module _ (t : Tracker) (bytes : List ℕ) (ten : length bytes ≡ 10) (have : t 
 
 pub silent-step : (n : ℕ) (t : Tracker) (b : List ℕ) (places : ℕ) → length (take 10 b) ≡ 10 → t .accepted ≡ true → t .at .count < maxWords
     → silent (rowsOf t (takenAs t (wordOf (take 10 b))) (wordOf (take 10 b))) ≡ true
-    → wordsFrom (suc n) t b places ≡ preceded 1 [] (wordsFrom n (nextOf t (takenAs t (wordOf (take 10 b))) (wordOf (take 10 b))) (drop 10 b) places)
+    → wordsFrom (suc n) t b places ≡ preceded 1 [] (wordsFrom n (nextTracker t (takenAs t (wordOf (take 10 b))) (wordOf (take 10 b))) (drop 10 b) places)
 silent-step n t b places ten have low quiet =
     let w = wordOf (take 10 b) in
     step-taken n t b places (silent-call t (take 10 b) ten have low quiet places)
-    ∙ ap (λ (p : ℕ). preceded 1 [] (wordsFrom n (nextOf t (takenAs t w) w) (drop 10 b) p)) (sub-zero places)
+    ∙ ap (λ (p : ℕ). preceded 1 [] (wordsFrom n (nextTracker t (takenAs t w) w) (drop 10 b) p)) (sub-zero places)

@@ -3,7 +3,7 @@
 -- Assumes nothing.
 use Prim.Native.Nat.{ℕ, zero, suc, _+_, _-_, _/_, _%_}
 use mathlib.Core.Path.{_≡_}
-use mathlib.Core.Bool.{Bool, cond}
+use mathlib.Core.Bool.{cond}
 use mathlib.Core.List.{List, [], _∷_, _++_}
 use lib.Dec.{eqb}
 use lib.ListN.{length, take, drop}
@@ -48,17 +48,17 @@ payloadCall t bytes places =
     (cond (t .accepted) (wordsFrom (length bytes / wordBytes) t bytes places) (stop t 2))
     (stop t 1)
 
-abbrev pub answerOf : Run → PayloadAnswer
-answerOf r = record { tracker = r .tracker; words = r .words; records = length (r .records); refusal = r .refusal }
+abbrev pub payloadAnswer : Run → PayloadAnswer
+payloadAnswer r = record { tracker = r .tracker; words = r .words; records = length (r .records); refusal = r .refusal }
 
 -- Word calls made one after the other, each on the rest of the bytes and of the places that the one before left, up to a refusal: what they came to.
-pub data Calls : ℕ → Tracker → List ℕ → ℕ → List Outcome → Type 0 where
-  done : {t : Tracker} {bytes : List ℕ} {places : ℕ} → Calls 0 t bytes places []
+pub data CallsInTurn : ℕ → Tracker → List ℕ → ℕ → List Outcome → Type 0 where
+  done : {t : Tracker} {bytes : List ℕ} {places : ℕ} → CallsInTurn 0 t bytes places []
   last : {n : ℕ} {t : Tracker} {bytes : List ℕ} {places number : ℕ} → wordCall t (take wordBytes bytes) places ≡ refused number
-      → Calls (suc n) t bytes places (refused number ∷ [])
+      → CallsInTurn (suc n) t bytes places (refused number ∷ [])
   more : {n : ℕ} {t : Tracker} {bytes : List ℕ} {places : ℕ} {x : TakenWord} {rest : List Outcome}
-      → wordCall t (take wordBytes bytes) places ≡ taken x → Calls n (x .next) (drop wordBytes bytes) (places - length (x .records)) rest
-      → Calls (suc n) t bytes places (taken x ∷ rest)
+      → wordCall t (take wordBytes bytes) places ≡ taken x → CallsInTurn n (x .next) (drop wordBytes bytes) (places - length (x .records)) rest
+      → CallsInTurn (suc n) t bytes places (taken x ∷ rest)
 
 -- The same calls as a list: what each comes to.
 abbrev pub further : Outcome → (Tracker → List Record → List Outcome) → List Outcome
@@ -85,6 +85,6 @@ total t (refused n ∷ rest) = stop t n
 
 -- What a payload call gives, from the tracker, the bytes and the buffer.
 pub record PayloadPost (t : Tracker) (bytes buffer : List ℕ) (r : PayloadAnswer) (after : List ℕ) : Type 0 where
-  pub answer : r ≡ answerOf (payloadCall t bytes (room buffer))
+  pub answer : r ≡ payloadAnswer (payloadCall t bytes (room buffer))
   pub buffer-is : after ≡ over (flat (payloadCall t bytes (room buffer) .records)) buffer
   pub good : Good (r .tracker)

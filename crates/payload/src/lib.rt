@@ -1,12 +1,11 @@
 // A payload: its words in order, up to a refusal. Document 01, "Calls and settings": "A payload call does words in order".
 // Each word is handed to the word call. The exported call goes over the numbers of a tracker in place instead, in the crate in_place.
-ghost use mathlib.Core.Path.{_≡_};
 ghost use Prim.Native.Nat.{_≤_};
 ghost use lib.ListN.{length, take};
 ghost use Rattle.words.specs.Word.{wordBytes};
 ghost use Rattle.cdp_running.specs.Tracker.{Good};
 ghost use Rattle.cdp_running.specs.Word.{WordPost};
-ghost use Rattle.payload.specs.Payload.{PayloadPost, answerOf, stop};
+ghost use Rattle.payload.specs.Payload.{PayloadPost};
 use cdp_running::Told;
 use cdp_running::Tracker;
 use cdp_running::WordAnswer;

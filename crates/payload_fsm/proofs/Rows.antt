@@ -4,7 +4,7 @@ use mathlib.Core.Bool.{Bool, true, false, cond}
 use lib.Dec.{eqb}
 use Rattle.words.specs.declared.Word.{Word}
 use Rattle.words.specs.Word.{idOf}
-use Rattle.words.specs.Tdh.{tdhId, noData}
+use Rattle.words.specs.Tdh.{tdhId}
 use Rattle.words.specs.Tdt.{tdtId, packetDone}
 use Rattle.words.specs.Ihw.{ihwId}
 use Rattle.words.specs.Ddw.{ddw0Id}

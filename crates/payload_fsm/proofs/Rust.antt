@@ -13,7 +13,7 @@ use Rattle.words.specs.Tdh.{noData}
 use Rattle.payload_fsm.specs.declared.State.{State}
 use Rattle.payload_fsm.specs.declared.State.the-variants as S
 use Rattle.payload_fsm.specs.declared.Advanced.{Advanced}
-use Rattle.payload_fsm.specs.Step.{advanceOf, nextState}
+use Rattle.payload_fsm.specs.Step.{nextState}
 use Rattle.payload_fsm.specs.Rust.{Nine, ihw, tdh, dat, c-dat, three, c-ihw, c-tdh, ddw0, ddw0-or-tdh, Event, Arrow, on, arrows, nine}
 use Rattle.payload_fsm.proofs.Rows.{choice, data-rows, three-rows}
 

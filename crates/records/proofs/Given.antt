@@ -45,7 +45,9 @@ each-so f (x ∷ xs) e = (f x (e .0), each-so f xs (e .1))
 pub given-append : (position : ℕ) (xs ys : List Row) → given position (xs ++ ys) ≡ given position xs ++ given position ys
 unfolding given
 given-append position [] ys = refl
-given-append position (x ∷ xs) ys = ap (λ (l : List Record). one position x ++ l) (given-append position xs ys) ∙ sym (append-assoc (one position x) (given position xs) (given position ys))
+given-append position (x ∷ xs) ys =
+    ap (λ (l : List Record). one position x ++ l) (given-append position xs ys) ∙ sym (append-assoc (one position x) (given position xs)
+    (given position ys))
 
 pub flat-append : (xs ys : List Record) → flat (xs ++ ys) ≡ flat xs ++ flat ys
 unfolding flat
@@ -90,7 +92,8 @@ unfolding given anyOn
 unheard position [] e = refl
 unheard position (row ∷ rows) e = off (row .on) (unheard position rows) e
   where
-    off : (on : Bool) → (silent rows ≡ true → given position rows ≡ []) → not (on || anyOn rows) ≡ true → cond on (recordAt position row ∷ []) [] ++ given position rows ≡ []
+    off : (on : Bool) → (silent rows ≡ true → given position rows ≡ []) → not (on || anyOn rows) ≡ true
+        → cond on (recordAt position row ∷ []) [] ++ given position rows ≡ []
     off true rest h = absurd (true≢false (sym h))
     off false rest h = rest h
 
@@ -101,7 +104,9 @@ empty position zero = refl
 empty position (suc n) = empty position n
 
 pub given-padded : (position : ℕ) (rows : List Row) → given position (padded rows) ≡ given position rows
-given-padded position rows = given-append position rows (replicate (mostRecords - length rows) none) ∙ ap (λ (l : List Record). given position rows ++ l) (empty position (mostRecords - length rows)) ∙ append-nil (given position rows)
+given-padded position rows =
+    given-append position rows (replicate (mostRecords - length rows) none) ∙ ap (λ (l : List Record). given position rows ++ l) (empty position
+    (mostRecords - length rows)) ∙ append-nil (given position rows)
 
 -- Nor do they change whether there is one.
 off : (rows : List Row) (n : ℕ) → anyOn (rows ++ replicate n none) ≡ anyOn rows

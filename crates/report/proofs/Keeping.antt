@@ -13,14 +13,14 @@ use Rattle.packet.specs.Packet.{inRange}
 use Rattle.records.specs.Records.{Record, mostRecords}
 use Rattle.cdp_running.specs.declared.Tracker.{Tracker}
 use Rattle.cdp_running.specs.Tracker.{Good, packetCall}
-use Rattle.cdp_running.specs.Word.{recordsOf, Outcome, taken, refused, takenOf, wordCall, answerOf, recordsIn}
+use Rattle.cdp_running.specs.Word.{Outcome, taken, refused, takenOf, wordCall, wordAnswer, recordsIn}
 use Rattle.cdp_running.proofs.Good.{good-accept, good-next}
-use Rattle.cdp_running.proofs.Outcome.{taken-admitted, taken-is, next-is, records-are}
+use Rattle.cdp_running.proofs.Outcome.{taken-admitted, next-is, records-are}
 use Rattle.cdp_running.proofs.Fine.{few-records}
 use Rattle.bench_file.specs.declared.Found.{Found}
 use Rattle.bench_file.specs.declared.Found.the-variants as F
 use Rattle.bench_file.specs.File.{bytesAt}
-use Rattle.bench_file.specs.Reader.{nextOf}
+use Rattle.bench_file.specs.Reader.{nextFound}
 use Rattle.bench_file.proofs.Reading.{sound, packet-given, word-given, end-given}
 use Rattle.ascii.specs.Steps.{Printed}
 use Rattle.ascii.proofs.Steps.{Moves, Laws}
@@ -41,11 +41,12 @@ good-packet t p g = at (inRange p) refl
     at true e = simp e (good-accept t p g e)
     at false e = simp e g
 
-good-word : (t : Tracker) (bytes : List ℕ) → Good t → Good (answerOf t (wordCall t bytes mostRecords) .tracker) × (length (recordsIn (wordCall t bytes mostRecords)) ≤ mostRecords)
+good-word : (t : Tracker) (bytes : List ℕ) → Good t → Good (wordAnswer t (wordCall t bytes mostRecords) .tracker)
+    × (length (recordsIn (wordCall t bytes mostRecords)) ≤ mostRecords)
 unfolding takenOf
 good-word t bytes g = at (wordCall t bytes mostRecords) refl
   where
-    at : (o : Outcome) → wordCall t bytes mostRecords ≡ o → Good (answerOf t o .tracker) × (length (recordsIn o) ≤ mostRecords)
+    at : (o : Outcome) → wordCall t bytes mostRecords ≡ o → Good (wordAnswer t o .tracker) × (length (recordsIn o) ≤ mostRecords)
     at (taken x) e =
         let a = taken-admitted t bytes mostRecords e in
         (rw (next-is t bytes mostRecords e) (good-next t (wordOf bytes) g (a .accepted) (a .low)), omega (arith, ap length (records-are t bytes mostRecords e), few-records t (wordOf bytes)))
@@ -91,7 +92,7 @@ module _ (file : List ℕ) where
   all-done r g = record { tracker = g; going = λ h. absurd (true≢false (sym h)) }
 
   -- The step by what the reader found.
-  item : (r : Report) → Good (r .tracker) → GoodReading file r → (x : Found) → nextOf file (r .packet) (r .word) (r .left) ≡ x
+  item : (r : Report) → Good (r .tracker) → GoodReading file r → (x : Found) → nextFound file (r .packet) (r .word) (r .left) ≡ x
       → Moved (atStage S.Items r) (itemStep file r x)
   unfolding restOf stepsLeft recordsFrom lines
   item r g reads (F.Packet p words) e =

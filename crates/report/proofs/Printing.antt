@@ -22,7 +22,8 @@ use Rattle.report.proofs.Steps.{good-start}
 use Rattle.report.proofs.Keeping.{restOf, stepsLeft, laws}
 
 -- For who calls `step`: with room for a word's lines fewer steps are left.
-pub step-onward : {file : List ℕ} {r next : Report} {d d′ : List ℕ} {n : ℕ} → StepPost (printer file) r d next n d′ → GoodReport file r → isDone (r .stage) ≡ false
+pub step-onward : {file : List ℕ} {r next : Report} {d d′ : List ℕ} {n : ℕ} → StepPost (printer file) r d next n d′ → GoodReport file r
+    → isDone (r .stage) ≡ false
     → mostPrinted ≤ length d
     → stepsLeft file next < stepsLeft file r
 step-onward {file} f g e h = onward (laws file) f g h e

@@ -15,8 +15,8 @@ use Rattle.packet.specs.Packet.{inRange}
 use Rattle.records.specs.Records.{mostRecords}
 use Rattle.cdp_running.specs.declared.Tracker.{Tracker}
 use Rattle.cdp_running.specs.Tracker.{startOf, packetCall, acceptOf}
-use Rattle.cdp_running.specs.Next.{nextOf as afterWord}
-use Rattle.cdp_running.specs.Word.{takenAs, Outcome, takenOf, wordCall, answerOf}
+use Rattle.cdp_running.specs.Next.{nextTracker as afterWord}
+use Rattle.cdp_running.specs.Word.{takenAs, Outcome, takenOf, wordCall, wordAnswer}
 use Rattle.cdp_running.proofs.Outcome.{admitted-taken}
 use Rattle.cdp_running.proofs.Fine.{few-records}
 use Rattle.bench_file.specs.File.{bytesAt, checkOf}
@@ -35,21 +35,22 @@ unfolding packetCall
 packet-accepted t p e = (simp e, simp e)
 
 word-taken : (t : Tracker) (left : ℕ) (bytes : List ℕ) → Takes t (suc left) → length bytes ≡ 10
-    → (wordCall t bytes mostRecords ≡ takenOf t (wordOf bytes)) × Takes (answerOf t (wordCall t bytes mostRecords) .tracker) left
+    → (wordCall t bytes mostRecords ≡ takenOf t (wordOf bytes)) × Takes (wordAnswer t (wordCall t bytes mostRecords) .tracker) left
 unfolding takenOf
 word-taken t left bytes h ten =
     let have = h .accepted (omega arith) in
     let room = h .room in
     let e : wordCall t bytes mostRecords ≡ takenOf t (wordOf bytes) =
     admitted-taken t bytes mostRecords (record { ten = ten; accepted = have; low = omega arith; fits = le-ltb mostRecords _ (few-records t (wordOf bytes)) }) in
-    let next : answerOf t (wordCall t bytes mostRecords) .tracker ≡ afterWord t (takenAs t (wordOf bytes)) (wordOf bytes) = ap (λ (o : Outcome). answerOf t o .tracker) e in
+    let next : wordAnswer t (wordCall t bytes mostRecords) .tracker ≡ afterWord t (takenAs t (wordOf bytes)) (wordOf bytes) = ap (λ (o : Outcome). wordAnswer t o .tracker) e in
     (e, subst (λ (u : Tracker). Takes u left) (sym next) (record { accepted = λ _. have; room = omega arith }))
 
 module _ (bytes : RefT (List ℕ)) (s : Sound (now bytes)) where
   ten : (at : ℕ) → at + 10 ≤ length (now bytes) → length (bytesAt (now bytes) at) ≡ 10
   ten at h = length-take-le 10 (drop at (now bytes)) (simp length-drop (omega arith))
 
-  all-accepted : {i n left : ℕ} {l : List Item} → Gives (readerAt bytes i n) left l → Place (now bytes) i n left → (t : Tracker) → Takes t left → AllAccepted t l
+  all-accepted : {i n left : ℕ} {l : List Item} → Gives (readerAt bytes i n) left l → Place (now bytes) i n left → (t : Tracker) → Takes t left
+      → AllAccepted t l
   unfolding AllAccepted
   all-accepted (end e) place t h = tt
   all-accepted (packet-first {p = p} {count = count} e rest) place t h =
@@ -61,7 +62,7 @@ module _ (bytes : RefT (List ℕ)) (s : Sound (now bytes)) where
       let given = word-given s place (asks-word (now bytes) i n left ∙ e) in
       let less : suc left - 1 ≡ left = omega arith in
       let w = word-taken t left (bytesAt (now bytes) at) h (ten at (given .inside)) in
-      (w .0, all-accepted rest (rw less at (given .next)) (answerOf t (wordCall t (bytesAt (now bytes) at) mostRecords) .tracker) (w .1))
+      (w .0, all-accepted rest (rw less at (given .next)) (wordAnswer t (wordCall t (bytesAt (now bytes) at) mostRecords) .tracker) (w .1))
 
 -- Of every list of bytes there is a reader.
 held : List ℕ → RefT (List ℕ)
@@ -70,4 +71,8 @@ held file = record { ptr = (0, 0); name = 0; now = file }
 pub never-refused : (file : List ℕ) → checkOf file ≡ 0 → AllAccepted (startOf settings) (items file)
 unfolding held
 never-refused file e =
-    all-accepted (held file) (sound file e) (reader-gives (held file) e) (at-start file) (startOf settings) (record { accepted = λ h. absurd (omega arith); room = omega arith })
+    all-accepted (held file) (sound file e) (reader-gives (held file) e) (at-start file) (startOf settings) (record {
+      accepted =
+          λ h. absurd (omega arith);
+      room = omega arith;
+    })

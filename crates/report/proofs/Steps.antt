@@ -1,6 +1,6 @@
 -- One step of a report: what the code computed, in the definition's terms.
 -- Assumes nothing.
-use Prim.Native.Nat.{ℕ, _+_, _-_, _^_, _≤_, _*_}
+use Prim.Native.Nat.{ℕ, _+_, _-_, _≤_, _*_}
 use mathlib.Core.Path.{_≡_, refl, sym, ap, subst, _∙_}
 use mathlib.Core.Bool.{Bool, true, false}
 use mathlib.Core.List.{List}
@@ -17,11 +17,11 @@ use Rattle.cdp_running.specs.declared.WordAnswer.{WordAnswer}
 use Rattle.cdp_running.specs.Tracker.{Good, startOf}
 use Rattle.cdp_running.proofs.Good as Good
 use Rattle.cdp_running.specs.Answer.{numbersOf}
-use Rattle.cdp_running.specs.Word.{Outcome, taken, refused, wordCall, answerOf, recordsIn, WordPost}
+use Rattle.cdp_running.specs.Word.{Outcome, taken, refused, wordCall, wordAnswer, recordsIn, WordPost}
 use Rattle.bench_file.specs.declared.Found.the-variants as F
 use Rattle.bench_file.specs.File.{checkOf, bytesAt}
 use Rattle.bench_file.specs.declared.Found.{Found}
-use Rattle.bench_file.specs.Reader.{pastWord, nextOf}
+use Rattle.bench_file.specs.Reader.{pastWord, nextFound}
 use Rattle.bench_file.proofs.Reading.{at-start, sound, reached, word-given}
 use Rattle.ascii.specs.Text.{Puts}
 use Rattle.report.specs.declared.Stage.{Stage}
@@ -62,13 +62,13 @@ module _ (t : Tracker) (bytes : List ℕ) {zeros after : List ℕ} {a : WordAnsw
   six : room zeros ≡ mostRecords
   six = omega arith
 
-  answered : a ≡ answerOf t (wordCall t bytes mostRecords)
+  answered : a ≡ wordAnswer t (wordCall t bytes mostRecords)
   answered = rw six at (w .answer)
 
   stand : after ≡ over (flat (recordsIn (wordCall t bytes mostRecords))) zeros
   stand = rw six at (w .buffer-is)
 
-  told : (o : Outcome) → numbersOf (answerOf t o .told) .records ≡ length (recordsIn o)
+  told : (o : Outcome) → numbersOf (wordAnswer t o .told) .records ≡ length (recordsIn o)
   told (taken x) = refl
   told (refused m) = refl
 
@@ -110,7 +110,7 @@ as-word file at w =
 
 -- What the reader found, and what is to be counted on there.
 module _ {file : List ℕ} {r : Report} (g : GoodReading file r) where
-  pub good-word-at : {x : Found} {at : ℕ} → x ≡ nextOf file (r .packet) (r .word) (r .left) → x ≡ F.Word at → GoodWord file r at
+  pub good-word-at : {x : Found} {at : ℕ} → x ≡ nextFound file (r .packet) (r .word) (r .left) → x ≡ F.Word at → GoodWord file r at
   good-word-at {x} {at} p q =
       let s = sound file (g .checked) in
       let given = word-given s (g .place) (sym p ∙ q) in
@@ -121,9 +121,9 @@ module _ {file : List ℕ} {r : Report} (g : GoodReading file r) where
         count-low = omega arith;
       }
 
-pub found : (file : List ℕ) (r : Report) {d d′ : List ℕ} {x y : Found} {next : Report} {n : ℕ} → x ≡ nextOf file (r .packet) (r .word) (r .left) → x ≡ y
+pub found : (file : List ℕ) (r : Report) {d d′ : List ℕ} {x y : Found} {next : Report} {n : ℕ} → x ≡ nextFound file (r .packet) (r .word) (r .left) → x ≡ y
     → Prints (itemStep file r y) d next n d′
-    → Prints (itemStep file r (nextOf file (r .packet) (r .word) (r .left))) d next n d′
+    → Prints (itemStep file r (nextFound file (r .packet) (r .word) (r .left))) d next n d′
 found file r e q s = rw (← e, q) s
 
 -- The step by the stage.

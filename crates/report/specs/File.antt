@@ -12,7 +12,7 @@ use Rattle.packet.specs.declared.Settings.{Settings}
 use Rattle.records.specs.Records.{Record, mostRecords}
 use Rattle.cdp_running.specs.declared.Tracker.{Tracker}
 use Rattle.cdp_running.specs.Tracker.{startOf, packetCall}
-use Rattle.cdp_running.specs.Word.{takenOf, wordCall, answerOf, recordsIn}
+use Rattle.cdp_running.specs.Word.{takenOf, wordCall, wordAnswer, recordsIn}
 use Rattle.bench_file.specs.File.{checkOf}
 use Rattle.bench_file.specs.Items.{Item, packet, word, items}
 use Rattle.report.specs.Text.{heading, lines, recordsLine, refusedLine}
@@ -24,7 +24,7 @@ settings = record { running = true; frames = true; periodic = true; period = 198
 -- A packet call or a word call, with room for all records that a word gives: the tracker after it, and its records.
 abbrev pub trackerAfter : Tracker → Item → Tracker
 trackerAfter t (packet p count) = packetCall t p .tracker
-trackerAfter t (word at bytes) = answerOf t (wordCall t bytes mostRecords) .tracker
+trackerAfter t (word at bytes) = wordAnswer t (wordCall t bytes mostRecords) .tracker
 
 abbrev pub recordsAfter : Tracker → Item → List Record
 recordsAfter t (packet p count) = []

@@ -13,7 +13,7 @@ use Rattle.bench_file.specs.declared.Found.{Found}
 use Rattle.bench_file.specs.declared.Found.the-variants as F
 use Rattle.bench_file.specs.File.{bytesAt, checkOf}
 use Rattle.bench_file.specs.Items.{Item, packet, word, itemsFrom}
-use Rattle.bench_file.specs.Reader.{pastPacket, pastWord, nextOf, Place}
+use Rattle.bench_file.specs.Reader.{pastPacket, pastWord, nextFound, Place}
 use Rattle.report.specs.declared.Stage.{Stage}
 use Rattle.report.specs.declared.Stage.the-variants as S
 use Rattle.report.specs.declared.Report.{Report}
@@ -70,7 +70,7 @@ itemStep file r F.End = record { next = atStage S.Done r; text = recordsLine (r 
 
 abbrev pub stageStep : List ℕ → Report → Stage → Printed Report
 stageStep file r S.Heading = record { next = atStage S.Items r; text = heading }
-stageStep file r S.Items = itemStep file r (nextOf file (r .packet) (r .word) (r .left))
+stageStep file r S.Items = itemStep file r (nextFound file (r .packet) (r .word) (r .left))
 stageStep file r (S.Refused n) = record { next = atStage S.Done r; text = refusedLine n }
 stageStep file r S.Done = nothing r
 

@@ -5,11 +5,11 @@ use Prim.Native.Nat.{ℕ, zero, suc, _+_, _*_}
 use mathlib.Core.List.{List, [], _∷_, _++_}
 use lib.ListN.{getD, drop}
 use Rattle.records.specs.Records.{Record, recordWidth, mostRecords}
-use Rattle.ascii.specs.Text.{ascii, space, newline, number}
+use Rattle.ascii.specs.Text.{ascii, space, newline, numeral}
 
 -- "one line per record, decimal with single spaces"
 unfoldable pub line : Record → List ℕ
-line r = number (r .position) space ++ number (r .code) space ++ number (r .first) space ++ number (r .second) newline
+line r = numeral (r .position) space ++ numeral (r .code) space ++ numeral (r .first) space ++ numeral (r .second) newline
 
 unfoldable pub lines : List Record → List ℕ
 lines [] = []
@@ -20,10 +20,10 @@ unfoldable pub heading : List ℕ
 heading = ascii "pos code first second\n"
 
 unfoldable pub recordsLine : ℕ → List ℕ
-recordsLine n = ascii "records " ++ number n newline
+recordsLine n = ascii "records " ++ numeral n newline
 
 unfoldable pub refusedLine : ℕ → List ℕ
-refusedLine n = ascii "refused " ++ number n newline
+refusedLine n = ascii "refused " ++ numeral n newline
 
 -- The most bytes of a line: four numbers of 64 bits have at most 20 digits each. The most of a word's lines.
 abbrev pub mostLine : ℕ

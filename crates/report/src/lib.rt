@@ -3,7 +3,7 @@ ghost use mathlib.Core.Path.{_≡_};
 ghost use Prim.Native.Nat.{_≤_};
 ghost use lib.ListN.{length};
 ghost use Rattle.cdp_running.specs.Tracker.{Good};
-ghost use Rattle.bench_file.specs.Reader.{nextOf};
+ghost use Rattle.bench_file.specs.Reader.{nextFound};
 ghost use Rattle.bench_file.specs.declared.Found.the-variants as F;
 ghost use Rattle.report.specs.Text.{mostPrinted};
 ghost use Rattle.ascii.specs.Steps.{Prints, StepPost};
@@ -134,7 +134,7 @@ fn item_step(r: Report, file: &[u8], out: &mut [u8]) -> Filled
     requires { ⌜ Good (r .tracker) ⌝ }
     requires { ⌜ GoodReading (now file) r ⌝ }
     requires { ⌜ mostPrinted ≤ length (now out) ⌝ }
-    ensures { λ p. ⌜ Prints (itemStep (now (file .entry)) r (nextOf (now (file .entry)) (r .packet) (r .word) (r .left))) (now (out .entry)) (p .report) (p .n) (now (out .exit)) ⌝ }
+    ensures { λ p. ⌜ Prints (itemStep (now (file .entry)) r (nextFound (now (file .entry)) (r .packet) (r .word) (r .left))) (now (out .entry)) (p .report) (p .n) (now (out .exit)) ⌝ }
 {
     match bench_file::next(file, r.packet, r.word, r.left) {
         Found::Packet { packet, words } => Filled {

@@ -80,6 +80,7 @@ pub kept-tdh : (kind : ItsPayloadWord) (w : Word) (old : StoredTdh) (after : Boo
     → (isTdh kind || after) ≡ true → nextTdh kind w old .stored ≡ true
 kept-tdh kind w old after h e = at (isTdh kind) e
   where
-    at : (b : Bool) → (b || after) ≡ true → cond b (record { stored = true; trigger = triggerType w; bc = triggerBc w; orbit = triggerOrbit w }) old .stored ≡ true
+    at : (b : Bool) → (b || after) ≡ true
+        → cond b (record { stored = true; trigger = triggerType w; bc = triggerBc w; orbit = triggerOrbit w }) old .stored ≡ true
     at true e = refl
     at false e = h e

@@ -28,7 +28,7 @@ abbrev pub noStored : Stored
 noStored = record { ihw = noIhw; tdh = noTdh; internal = noInternal; cdw = noCdw }
 
 abbrev pub noFrame : Frame
-noFrame = record { live = false; start = 0 }
+noFrame = record { opened = false; start = 0 }
 
 -- What is stored fits its bits, and is 0 where it is absent.
 pub record GoodIhw (i : StoredIhw) : Type 0 where
@@ -56,5 +56,5 @@ pub record GoodStored (s : Stored) : Type 0 where
 
 pub record GoodFrame (frames : Bool) (f : Frame) : Type 0 where
   pub start : f .start ≤ mostPosition
-  pub absent : f .live ≡ false → f ≡ noFrame
-  pub off : frames ≡ false → f .live ≡ false
+  pub absent : f .opened ≡ false → f ≡ noFrame
+  pub off : frames ≡ false → f .opened ≡ false

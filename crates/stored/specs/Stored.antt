@@ -1,7 +1,7 @@
 -- 01, "Records": what is stored at a word, each part by itself, from as few others as possible, and all of it.
 -- Assumes nothing.
 use Prim.Native.Nat.{ℕ}
-use mathlib.Core.Bool.{Bool, true, false, cond, not, _&&_, _||_}
+use mathlib.Core.Bool.{Bool, true, cond, not, _&&_, _||_}
 use lib.Dec.{eqb}
 use Rattle.words.specs.declared.Word.{Word}
 use Rattle.words.specs.Tdh.{triggerType, internalTrigger, continuation, triggerBc, triggerOrbit}
@@ -59,7 +59,7 @@ nextSeen kind seen = isData kind || seen
 
 -- "Frames on, none open, continuation 0: opened here."
 abbrev pub opens : Bool → ItsPayloadWord → Word → Frame → Bool
-opens frames kind w f = isTdh kind && (frames && (not (f .live) && eqb (continuation w) 0))
+opens frames kind w f = isTdh kind && (frames && (not (f .opened) && eqb (continuation w) 0))
 
 -- "Frames on and packet done: an open frame closes here"
 abbrev pub closes : Bool → ItsPayloadWord → Word → Bool
@@ -67,12 +67,12 @@ closes frames kind w = isTdt kind && (frames && packetDone w)
 
 abbrev pub nextFrame : Bool → ItsPayloadWord → Word → ℕ → Frame → Frame
 nextFrame frames kind w position f =
-    cond (opens frames kind w f) (record { live = true; start = position }) (cond (closes frames kind w) noFrame f)
+    cond (opens frames kind w f) (record { opened = true; start = position }) (cond (closes frames kind w) noFrame f)
 
 -- "frame: none, opened, or closed with start and end"
 abbrev pub frameTold : Bool → ItsPayloadWord → Word → ℕ → Frame → FrameTold
 frameTold frames kind w position f =
-    cond (opens frames kind w f) F.Opened (cond (closes frames kind w && f .live) (F.Closed (f .start) position) F.Nothing)
+    cond (opens frames kind w f) F.Opened (cond (closes frames kind w && f .opened) (F.Closed (f .start) position) F.Nothing)
 
 -- The lanes that an IHW switches on, in the answer of a word taken as one.
 abbrev pub lanesTold : ItsPayloadWord → Word → ℕ

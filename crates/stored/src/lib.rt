@@ -38,7 +38,7 @@ pub struct Stored {
 
 // Whether a frame is open, and where it started.
 pub struct Frame {
-    pub live: bool,
+    pub opened: bool,
     pub start: u64,
 }
 

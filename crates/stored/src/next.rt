@@ -105,7 +105,7 @@ fn opens(frames: bool, kind: ItsPayloadWord, word: Word, frame: Frame) -> bool
     let tdh = Tdh { word: word };
     let is_tdh = kind.is_tdh();
     let continuation = tdh.continuation();
-    is_tdh & (frames & (!frame.live & (continuation == 0)))
+    is_tdh & (frames & (!frame.opened & (continuation == 0)))
 }
 
 fn closes(frames: bool, kind: ItsPayloadWord, word: Word) -> bool
@@ -122,12 +122,12 @@ pub fn frame(frames: bool, kind: ItsPayloadWord, word: Word, position: u64, old:
 {
     if opens(frames, kind, word, old) {
         Frame {
-            live: true,
+            opened: true,
             start: position,
         }
     } else if closes(frames, kind, word) {
         Frame {
-            live: false,
+            opened: false,
             start: 0,
         }
     } else {
@@ -147,7 +147,7 @@ pub fn frame_told(
     let closing = closes(frames, kind, word);
     if opens(frames, kind, word, old) {
         FrameTold::Opened
-    } else if closing & old.live {
+    } else if closing & old.opened {
         FrameTold::Closed {
             start: old.start,
             end: position,

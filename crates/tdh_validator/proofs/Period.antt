@@ -1,6 +1,6 @@
 -- The found period: it is one, and no other number is. A period of 3564 is never found. What a record tells of it.
 -- Assumes nothing.
-use Prim.Native.Nat.{ℕ, _+_, _%_, _<_}
+use Prim.Native.Nat.{ℕ}
 use mathlib.Core.Path.{_≡_, _∙_}
 use mathlib.Core.Bool.{true, false, _&&_}
 use native.Mathlib.Omega.{arith}
@@ -14,7 +14,7 @@ use Rattle.packet.specs.Settings.{countsOrbits}
 use Rattle.records.specs.Records.{when}
 use Rattle.records.specs.Detail.{differ}
 use Rattle.stored.specs.declared.InternalTdh.{InternalTdh}
-use Rattle.tdh_validator.specs.Tdh.{Legal, crossings, IsPeriod, period, orbitDifference, ranBack, foundBy, asked, interval}
+use Rattle.tdh_validator.specs.Tdh.{Legal, IsPeriod, period, orbitDifference, ranBack, foundBy, asked, interval}
 
 module _ (previous current : ℕ) (legal : Legal previous) (legal′ : Legal current) where
   pub period-is : IsPeriod previous current (period previous current)

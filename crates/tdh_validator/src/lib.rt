@@ -4,7 +4,7 @@ ghost use Rattle.records.specs.Records.{padded};
 ghost use mathlib.Core.Bool.{cond};
 ghost use lib.Dec.{ltb};
 ghost use Rattle.packet.specs.Settings.{countsOrbits};
-ghost use Rattle.tdh_validator.specs.Tdh.{detail, orbitDifference, ranBack, longPeriod, intervalRow, interval, matchesPacket, tdhRows, afterPacketDoneRows, continuationRows};
+ghost use Rattle.tdh_validator.specs.Tdh.{detail, orbitDifference, ranBack, longPeriod, intervalRow, interval, tdhRows, afterPacketDoneRows, continuationRows};
 use packet::Packet;
 use packet::Rule;
 use packet::Settings;

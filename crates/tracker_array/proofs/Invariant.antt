@@ -36,7 +36,15 @@ ihw-is i = simp tests (λ (low, zero). record { lanes = low; absent = λ o j. re
 tdh-is : (h : StoredTdh) → (tdhGood h ≡ true) ↔ ((h .orbit < 2 ^ 32) × GoodTdh h)
 tdh-is h =
     simp tests (
-      λ (trigger, (bc, (orbit, zero))). (orbit, record { trigger = trigger; bc = bc; absent = λ o j. record { stored = o j; trigger = zero o .0 j; bc = zero o .1 .0 j; orbit = zero o .1 .1 j } }),
+      λ (trigger, (bc, (orbit, zero))). (
+        orbit,
+        record {
+          trigger =
+              trigger;
+          bc = bc;
+          absent = λ o j. record { stored = o j; trigger = zero o .0 j; bc = zero o .1 .0 j; orbit = zero o .1 .1 j };
+        },
+      ),
       λ (orbit, g). (g .trigger, (g .bc, (orbit, λ o. let e = g .absent o in (cc, (cc, cc))))),
     )
 
@@ -51,7 +59,14 @@ cdw-is : (c : StoredCdw) → (cdwGood c ≡ true) ↔ GoodCdw c
 cdw-is c = simp tests (λ (low, zero). record { user = low; absent = λ o j. record { stored = o j; user = zero o j } }, λ g. (g .user, λ o. cc (g .absent o)))
 
 frame-is : (frames : Bool) (f : Frame) → (frameGood frames f ≡ true) ↔ GoodFrame frames f
-frame-is frames f = simp tests (λ (low, (zero, off)). record { start = low; absent = λ o j. record { live = o j; start = zero o j }; off = off }, λ g. (g .start, (λ o. cc (g .absent o), g .off)))
+frame-is frames f =
+    simp tests (
+      λ (low, (zero, off)). record { start = low; absent = λ o j. record { opened = o j; start = zero o j }; off = off },
+      λ g. (
+        g .start,
+        (λ o. cc (g .absent o), g .off),
+      ),
+    )
 
 packet-is : (p : Packet) → (packetBlank p ≡ true) ↔ (p ≡ noPacket)
 packet-is p = (none, ap packetBlank)
@@ -94,7 +109,13 @@ tests-good t e =
               accepted = o j;
               packet = packet j;
               at = record { fsm = record { state = state j }; count = count j; seen = seen j };
-              stored = record { ihw = ihw .absent no-ihw j; tdh = tdh .1 .absent no-tdh j; internal = internal .1 .absent no-internal j; cdw = cdw .absent no-cdw j };
+              stored =
+                  record {
+                    ihw = ihw .absent no-ihw j;
+                    tdh = tdh .1 .absent no-tdh j;
+                    internal = internal .1 .absent no-internal j;
+                    cdw = cdw .absent no-cdw j;
+                  };
               frame = frame .absent no-frame j;
             };
       },

@@ -97,7 +97,7 @@ pub written : (a : List ℕ) → isTracker a ≡ true → a ≡ encodeOf (tracke
 unfolding numbersFrom encodeOf
 written a e =
     let (long, (form, (low, good))) = tracker-is a .0 e in
-    let (m, ((running, (frames, (periodic, (accepted, (seen, (ihw, (tdh, (internal, (cdw, live))))))))), (two, zeros))) = simp tests at form in
+    let (m, ((running, (frames, (periodic, (accepted, (seen, (ihw, (tdh, (internal, (cdw, opened))))))))), (two, zeros))) = simp tests at form in
     sym (spelled size 0 a long)
     ∙ in-two P.unused (size - P.unused) 0 a
     ∙ ap (λ (l : List ℕ). numbersFrom P.unused 0 a ++ l) (all-zero (size - P.unused) P.unused a zeros)
@@ -133,8 +133,8 @@ array-good a h = ap isTracker (h .own) ∙ tracker-back (trackerIn a) (h .good) 
 -- Numbers that passed the test of form.
 pub in-form : (a : List ℕ) → length a ≡ size → inForm a ≡ true → InForm a
 in-form a long e =
-    let (m, ((running, (frames, (periodic, (accepted, (seen, (ihw, (tdh, (internal, (cdw, live))))))))), (two, zeros))) = simp tests at e in
-    record { long = long; form = e; frames = frames; periodic = periodic; ihw = ihw; tdh = tdh; internal = internal; cdw = cdw; live = live }
+    let (m, ((running, (frames, (periodic, (accepted, (seen, (ihw, (tdh, (internal, (cdw, opened))))))))), (two, zeros))) = simp tests at e in
+    record { long = long; form = e; frames = frames; periodic = periodic; ihw = ihw; tdh = tdh; internal = internal; cdw = cdw; opened = opened }
 
 -- Where no packet was accepted, a tracker is one that the start gave: nothing stands in it but the settings.
 pub bare-good : (a : List ℕ) → InForm a → isOn (place a P.accepted) ≡ false

@@ -46,7 +46,8 @@ all-zero (suc n) i a e =
     λ j. eqb-true (place a i) 0 first j ∷ all-zero n (suc i) a rest j
 
 -- One after the other: the first of them and the rest, up to none.
-pub one-more : (all : Bool) (i to : ℕ) (a : List ℕ) → i < to → ((all && eqb (place a i) 0) && zerosFrom (to - (i + 1)) (i + 1) a) ≡ (all && zerosFrom (to - i) i a)
+pub one-more : (all : Bool) (i to : ℕ) (a : List ℕ) → i < to → ((all && eqb (place a i) 0) && zerosFrom (to - (i + 1)) (i + 1) a)
+    ≡ (all && zerosFrom (to - i) i a)
 unfolding zerosFrom
 one-more all i to a h =
     let left : to - i ≡ suc (to - (i + 1)) = omega arith in

@@ -2,7 +2,7 @@
 -- Assumes nothing.
 use Prim.Native.Nat.{ℕ, _-_, _<_, _^_}
 use mathlib.Core.Path.{_≡_}
-use mathlib.Core.Bool.{Bool, true, false, cond, _||_}
+use mathlib.Core.Bool.{Bool, cond, _||_}
 use mathlib.Core.List.{List, [], _∷_, _++_}
 use lib.Dec.{leb, eqb}
 use lib.ListN.{length, replicate}
@@ -78,7 +78,7 @@ abbrev pub cdwNumbers : StoredCdw → List ℕ
 cdwNumbers c = flag (c .stored) ∷ c .user ∷ []
 
 abbrev pub frameNumbers : Frame → List ℕ
-frameNumbers f = flag (f .live) ∷ f .start ∷ []
+frameNumbers f = flag (f .opened) ∷ f .start ∷ []
 
 -- State, count and "data seen".
 abbrev pub atNumbers : At → List ℕ

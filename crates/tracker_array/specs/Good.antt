@@ -20,7 +20,7 @@ pub record InForm (a : List ℕ) : Type 0 where
   pub tdh : place a P.tdh ≤ 1
   pub internal : place a P.internal ≤ 1
   pub cdw : place a P.cdw ≤ 1
-  pub live : place a P.live ≤ 1
+  pub opened : place a P.opened ≤ 1
 
 -- As many numbers as a tracker has, and those that are read in fewer bits fit them.
 pub record Fits (a : List ℕ) : Type 0 where

@@ -86,8 +86,8 @@ cdw = 26
 abbrev pub cdwUser : ℕ
 cdwUser = 27
 
-abbrev pub live : ℕ
-live = 28
+abbrev pub opened : ℕ
+opened = 28
 
 abbrev pub start : ℕ
 start = 29
@@ -110,4 +110,4 @@ abbrev pub stored : ℕ
 stored = ihw
 
 abbrev pub frame : ℕ
-frame = live
+frame = opened

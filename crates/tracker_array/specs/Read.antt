@@ -70,7 +70,7 @@ abbrev pub storedIn : List ℕ → Stored
 storedIn a = record { ihw = ihwIn a; tdh = tdhIn a; internal = internalIn a; cdw = cdwIn a }
 
 abbrev pub frameIn : List ℕ → Frame
-frameIn a = record { live = isOn (place a P.live); start = place a P.start }
+frameIn a = record { opened = isOn (place a P.opened); start = place a P.start }
 
 abbrev pub trackerIn : List ℕ → Tracker
 trackerIn a =
@@ -92,7 +92,7 @@ flagsFit a =
     && (isFlag (place a P.accepted)
     && (isFlag (place a P.seen)
     && (isFlag (place a P.ihw)
-    && (isFlag (place a P.tdh) && (isFlag (place a P.internal) && (isFlag (place a P.cdw) && isFlag (place a P.live)))))))))
+    && (isFlag (place a P.tdh) && (isFlag (place a P.internal) && (isFlag (place a P.cdw) && isFlag (place a P.opened)))))))))
 
 -- So many numbers from a place on are 0.
 unfoldable pub zerosFrom : ℕ → ℕ → List ℕ → Bool
@@ -123,7 +123,7 @@ abbrev pub cdwGood : StoredCdw → Bool
 cdwGood c = ltb (c .user) (2 ^ 48) && (c .stored || eqb (c .user) 0)
 
 abbrev pub frameGood : Bool → Frame → Bool
-frameGood frames f = leb (f .start) mostPosition && ((f .live || eqb (f .start) 0) && (frames || not (f .live)))
+frameGood frames f = leb (f .start) mostPosition && ((f .opened || eqb (f .start) 0) && (frames || not (f .opened)))
 
 abbrev pub storedGood : Bool → Stored → Frame → Bool
 storedGood frames s f =
@@ -155,7 +155,7 @@ blank t =
     && (eqb (t .at .count) 0
     && (not (t .at .seen)
     && (not (t .stored .ihw .stored)
-    && (not (t .stored .tdh .stored) && (not (t .stored .internal .stored) && (not (t .stored .cdw .stored) && not (t .frame .live)))))))
+    && (not (t .stored .tdh .stored) && (not (t .stored .internal .stored) && (not (t .stored .cdw .stored) && not (t .frame .opened)))))))
 
 abbrev pub isGood : Tracker → Bool
 isGood t =

@@ -40,7 +40,7 @@ pub fn encode(t: Tracker, a: &mut [u64])
     if a.len() != SIZE {
         return;
     }
-    write::rest(a);
-    write::first(t.settings, t.accepted, t.packet, t.at, a);
+    write::unused(a);
+    write::up_to_seen(t.settings, t.accepted, t.packet, t.at, a);
     write::stored(t.stored, t.frame, a);
 }

@@ -55,7 +55,7 @@ pub const CDW: usize = 26;
 
 pub const CDW_USER: usize = 27;
 
-pub const LIVE: usize = 28;
+pub const OPENED: usize = 28;
 
 pub const START: usize = 29;
 

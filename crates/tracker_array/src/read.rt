@@ -88,7 +88,7 @@ pub fn frame(a: &[u64]) -> Frame
     ensures { λ r. ⌜ r ≡ frameIn (now (a .entry)) ⌝ }
 {
     Frame {
-        live: a[place::LIVE] == 1,
+        opened: a[place::OPENED] == 1,
         start: a[place::START],
     }
 }

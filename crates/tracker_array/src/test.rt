@@ -29,7 +29,7 @@ fn flags_fit(a: &[u64]) -> bool
                         & ((a[place::IHW] <= 1)
                             & ((a[place::TDH] <= 1)
                                 & ((a[place::INTERNAL] <= 1)
-                                    & ((a[place::CDW] <= 1) & (a[place::LIVE] <= 1)))))))))
+                                    & ((a[place::CDW] <= 1) & (a[place::OPENED] <= 1)))))))))
 }
 
 // Whether the numbers from a place on are 0, up to another. It asks all of them, which is faster than ending at the first that is not.
@@ -120,8 +120,8 @@ fn frame(a: &[u64]) -> bool
     requires { ⌜ InForm (now a) ⌝ }
     ensures { λ r. ⌜ r ≡ frameGood (settingsIn (now (a .entry)) .frames) (frameIn (now (a .entry))) ⌝ }
 {
-    let live = a[place::LIVE];
-    fits(live, MOST_POSITION, a[place::START]) & (live <= a[place::FRAMES])
+    let opened = a[place::OPENED];
+    fits(opened, MOST_POSITION, a[place::START]) & (opened <= a[place::FRAMES])
 }
 
 // What came in: settings, packet and count.

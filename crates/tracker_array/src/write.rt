@@ -46,7 +46,7 @@ fn packet(p: Packet, a: &mut [u64])
 }
 
 // Whether something is there, and its number beside it.
-fn held(there: bool, n: u64, at: usize, a: &mut [u64])
+fn flag_and_number(there: bool, n: u64, at: usize, a: &mut [u64])
     requires { ⌜ length (now a) ≡ size ⌝ }
     requires { ⌜ at + 2 ≤ size ⌝ }
     ensures { λ _. ⌜ now (a .exit) ≡ sets (now (a .entry)) at (flag there ∷ n ∷ []) ⌝ }
@@ -99,8 +99,8 @@ fn reached(at: At, a: &mut [u64])
     a[place::SEEN] = flag(at.seen);
 }
 
-// Nothing where nothing stands.
-pub(crate) fn rest(a: &mut [u64])
+// 0 at the places that are not used.
+pub(crate) fn unused(a: &mut [u64])
     requires { ⌜ length (now a) ≡ size ⌝ }
     ensures { λ _. ⌜ now (a .exit) ≡ sets (now (a .entry)) P.unused (replicate (size - P.unused) 0) ⌝ }
 {
@@ -111,7 +111,7 @@ pub(crate) fn rest(a: &mut [u64])
     }
 }
 
-pub(crate) fn first(s: Settings, b: bool, p: Packet, at: At, a: &mut [u64])
+pub(crate) fn up_to_seen(s: Settings, b: bool, p: Packet, at: At, a: &mut [u64])
     requires { ⌜ length (now a) ≡ size ⌝ }
     ensures { λ _. ⌜ now (a .exit) ≡ sets (now (a .entry)) P.mark (firstNumbers s b p at) ⌝ }
 {
@@ -126,9 +126,9 @@ pub(crate) fn stored(s: Stored, frame: Frame, a: &mut [u64])
     requires { ⌜ length (now a) ≡ size ⌝ }
     ensures { λ _. ⌜ now (a .exit) ≡ sets (now (a .entry)) P.stored (storedNumbers s frame) ⌝ }
 {
-    held(s.ihw.stored, s.ihw.lanes as u64, place::IHW, a);
+    flag_and_number(s.ihw.stored, s.ihw.lanes as u64, place::IHW, a);
     tdh(s.tdh, a);
     internal(s.internal, a);
-    held(s.cdw.stored, s.cdw.user, place::CDW, a);
-    held(frame.live, frame.start, place::LIVE, a);
+    flag_and_number(s.cdw.stored, s.cdw.user, place::CDW, a);
+    flag_and_number(frame.opened, frame.start, place::OPENED, a);
 }

@@ -15,6 +15,6 @@ use Rattle.records.specs.Detail.{detailed}
 abbrev pub detail : Word → ℕ
 detail w = cond (eqb (idOf w) tdtId) (cond (isReserved0 w) 0 2) 1
 
--- `live`: a frame is open.
+-- `opened`: a frame is open.
 abbrev pub tdtRows : Settings → Bool → Word → List Row
-tdtRows s live w = detailed 50 (detail w) ∷ when (s .frames && (packetDone w && not live)) 59 0 0 ∷ []
+tdtRows s opened w = detailed 50 (detail w) ∷ when (s .frames && (packetDone w && not opened)) 59 0 0 ∷ []

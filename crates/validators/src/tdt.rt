@@ -22,14 +22,14 @@ fn sanity_check(word: Word) -> u64
 }
 
 // Kind TDT: with packet done it ends a frame, of which a start must have been seen.
-pub fn check(settings: Settings, live: bool, word: Word) -> [Row; MOST_RECORDS]
-    ensures { λ r. ⌜ r ≡ padded (tdtRows settings live word) ⌝ }
+pub fn check(settings: Settings, opened: bool, word: Word) -> [Row; MOST_RECORDS]
+    ensures { λ r. ⌜ r ≡ padded (tdtRows settings opened word) ⌝ }
 {
     let tdt = Tdt { word: word };
     let fault = sanity_check(word);
     let done = tdt.packet_done();
     let mut rows = [none(); MOST_RECORDS];
     rows[0] = when(fault != 0, 50, fault, 0);
-    rows[1] = when(settings.frames & (done & !live), 59, 0, 0);
+    rows[1] = when(settings.frames & (done & !opened), 59, 0, 0);
     rows
 }

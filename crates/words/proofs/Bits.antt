@@ -1,15 +1,12 @@
 -- Bits of a word and of its halves: one law for each half, and that a loaded word is the number that its bytes are.
 -- Assumes nothing.
 use Prim.Native.Nat.{ℕ, _+_, _-_, _*_, _/_, _%_, _^_, _<_, _≤_}
-use mathlib.Core.Path.{_≡_, refl, sym, ap, _∙_}
-use mathlib.Core.List.{List, [], _∷_}
+use mathlib.Core.Path.{_≡_, sym, ap, _∙_}
 use native.Mathlib.Nat.{mod-lt, one-mul}
-use lib.ListN.{length, getD, drop}
-use lib.Seq.{drop-drop, getD-drop}
 use native.Mathlib.Omega.{arith}
 use lib.Pow.{high, low, field, mod-mod-pow, mod-pow-add, shr-shr, pow-pos, shl-exact}
 use Rattle.words.specs.declared.Word.{Word}
-use Rattle.words.specs.Word.{number, slice, wordOf, value, bits, idOf}
+use Rattle.words.specs.Word.{slice, value, bits}
 
 -- Bits h:l of a number are what its low h + 1 bits leave above l.
 above : (h l n : ℕ) → l ≤ h → slice h l n ≡ n % 2 ^ (h + 1) / 2 ^ l

@@ -18,8 +18,8 @@ activeLanes = bits 27 0
 abbrev pub lanesOn : Word → ℕ
 lanesOn w = ones (activeLanes w)
 
-abbrev pub answerOf : Word → IhwAnswer
-answerOf w = record { active = activeLanes w; on = lanesOn w }
+abbrev pub ihwAnswer : Word → IhwAnswer
+ihwAnswer w = record { active = activeLanes w; on = lanesOn w }
 
 abbrev pub reserved : Word → ℕ
 reserved = bits 71 28

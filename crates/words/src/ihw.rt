@@ -1,6 +1,6 @@
 // The IHW: ITS header word. 01, "Words" (added).
 ghost use mathlib.Core.Path.{_≡_};
-ghost use Rattle.words.specs.Ihw.{activeLanes, lanesOn, answerOf, reserved, isReserved0};
+ghost use Rattle.words.specs.Ihw.{activeLanes, ihwAnswer, reserved, isReserved0};
 use crate::Word;
 
 pub struct Ihw {
@@ -23,7 +23,7 @@ impl Ihw {
     }
 
     pub fn read(self) -> IhwAnswer
-        ensures { λ r. ⌜ r ≡ answerOf (self .word) ⌝ }
+        ensures { λ r. ⌜ r ≡ ihwAnswer (self .word) ⌝ }
     {
         let active = self.active_lanes();
         IhwAnswer {

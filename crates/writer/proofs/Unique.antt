@@ -19,6 +19,7 @@ written-unique a b = (unique (a .answer) (b .answer), unique (a .slice-is) (b .s
 pub write-unique : (f : Fields) {slice after after′ : List ℕ} {r r′ : ℕ} → Writes f slice r after → Writes f slice r′ after′ → (r ≡ r′) × (after ≡ after′)
 write-unique f a b = written-unique a b
 
-pub write-data-unique : (id : ℕ) (bytes : List ℕ) {slice after after′ : List ℕ} {r r′ : ℕ} → WritesData id bytes slice r after → WritesData id bytes slice r′ after′
+pub write-data-unique : (id : ℕ) (bytes : List ℕ) {slice after after′ : List ℕ} {r r′ : ℕ} → WritesData id bytes slice r after
+    → WritesData id bytes slice r′ after′
     → (r ≡ r′) × (after ≡ after′)
 write-data-unique id bytes a b = written-unique a b

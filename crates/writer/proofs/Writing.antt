@@ -1,6 +1,6 @@
 -- From fields to a word, from a word to its bytes, and what of it is refused.
 -- Assumes nothing.
-use Prim.Native.Nat.{ℕ, suc, _+_, _*_, _/_, _%_, _^_, _≤_, _<_}
+use Prim.Native.Nat.{ℕ, _+_, _*_, _/_, _%_, _^_, _≤_, _<_}
 use mathlib.Core.Path.{_≡_, refl, sym, ap, ap₂, _∙_, subst}
 use mathlib.Core.Bool.{Bool, true, false, cond, _&&_, true≢false}
 use mathlib.Core.List.{List, [], _∷_, _++_, append-nil}
@@ -8,7 +8,7 @@ use native.Mathlib.Nat.{div-div-eq-div-mul}
 use native.Mathlib.Omega.{arith}
 use lib.Dec.{ltb}
 use mir.Val.{boolByte}
-use borrow.Author.Tests.{lt-ltb, le-ltb, ltb-true, ltb-false, lt-leb, eq-eqb, ne-eqb}
+use borrow.Author.Tests.{lt-ltb, ltb-true, ltb-false, lt-leb, eq-eqb, ne-eqb}
 use Rattle.words.proofs.Load.{whole}
 use lib.ListN.{length, length-append, drop-of-length-le}
 use lib.Seq.{sets, sets-eq}
@@ -20,7 +20,7 @@ use Rattle.writer.specs.declared.Fields.the-variants as F
 use Rattle.writer.specs.declared.Packed.{Packed}
 use Rattle.writer.specs.declared.Packed.the-variants.{Is, Refused}
 use Rattle.writer.specs.Layout.{put, fit}
-use Rattle.writer.specs.Write.{flag, fieldsFit, numberOf, written, wordFrom, packed, bytesOf, refusalOf, wordIn, PackPost, WritePost, Writes, WritesData, Bytes}
+use Rattle.writer.specs.Write.{flag, fieldsFit, numberOf, written, wordFrom, packed, bytesOf, refusalOf, wordIn, PackPost, Writes, WritesData, Bytes}
 use Rattle.writer.proofs.Bytes.{number-bytes, bytes-number, number-more, number-below, more-bytes}
 use Rattle.writer.proofs.Round.{value-written}
 
@@ -156,7 +156,8 @@ packs f {r} e = record { answer = e; number = ap refusalOf e ∙ at (fieldsFit f
     none : Word
     none = record { lo = 0; hi = 0 }
 
-    at : (b : Bool) → (refusalOf (cond b (Is (wordFrom f)) (Refused 8)) ≡ cond b 0 8) × (wordIn (cond b (Is (wordFrom f)) (Refused 8)) ≡ cond b (wordFrom f) none)
+    at : (b : Bool) → (refusalOf (cond b (Is (wordFrom f)) (Refused 8)) ≡ cond b 0 8)
+        × (wordIn (cond b (Is (wordFrom f)) (Refused 8)) ≡ cond b (wordFrom f) none)
     at true = (refl, refl)
     at false = (refl, refl)
 

@@ -11,13 +11,36 @@ use Rattle.ascii.proofs.put_line.Statement.{statement}
 use Rattle.ascii.proofs.put_line.Tie as tie
 
 returns : tie.Need-returns
-returns c = rw (lt-ltb (length (now (c .before .before .before .before .args .out))) (mostLine (now (c .before .before .before .before .args .name)) (now (c .before .before .before .before .args .numbers))) (omega (arith, c .if1 .taken))) (none-put (now (c .before .before .before .before .args .out)))
+returns c =
+    let c4 = c .before .before .before .before in
+    rw (lt-ltb (length (now (c4 .args .out))) (mostLine (now (c4 .args .name)) (now (c4 .args .numbers))) (omega (
+      arith,
+      c .if1 .taken,
+    ))) (none-put (now (c4 .args .out)))
 
 returns-2 : tie.Need-returns-2
-returns-2 c = rw (lt-ltb (length (now (c .before .before .before .before .before .args .out))) (mostLine (now (c .before .before .before .before .before .args .name)) (now (c .before .before .before .before .before .args .numbers))) (omega (arith, c .if2 .taken))) (none-put (now (c .before .before .before .before .before .args .out)))
+returns-2 c =
+    let c5 = c .before .before .before .before .before in
+    rw (lt-ltb (length (now (c5 .args .out))) (mostLine (now (c5 .args .name)) (now (c5 .args .numbers))) (omega (
+      arith,
+      c .if2 .taken,
+    ))) (none-put (now (c5 .args .out)))
 
 returns-3 : tie.Need-returns-3
-returns-3 c = rw (le-ltb (length (now (c .before .before .before .before .before .before .before .before .before .before .before .before .before .before .before .before .before .before .args .out))) (mostLine (now (c .before .before .before .before .before .before .before .before .before .before .before .before .before .before .before .before .before .before .args .name)) (now (c .before .before .before .before .before .before .before .before .before .before .before .before .before .before .before .before .before .before .args .numbers))) (omega (arith, c .before .before .before .before .before .before .before .before .before .before .before .before .before .before .if1 .left, c .before .before .before .before .before .before .before .before .before .before .before .before .before .if2 .left))) (behind (behind (c .before .before .before .before .before .before .before .before .before .before .before .copy .ensures) (c .before .before .before .before .before .before .before .put-numbers .ensures .0)) (c .before .before .copy2 .ensures))
+returns-3 c =
+    let c7 = c .before .before .before .before .before .before .before in
+    let c11 = c7 .before .before .before .before in
+    let c13 = c11 .before .before in
+    let c14 = c13 .before in
+    let c18 = c14 .before .before .before .before in
+    rw (le-ltb (length (now (c18 .args .out))) (mostLine (now (c18 .args .name)) (now (c18 .args .numbers))) (omega (
+      arith,
+      c14 .if1 .left,
+      c13 .if2 .left,
+    ))) (behind (behind (c11 .copy .ensures) (c7 .put-numbers .ensures .0)) (c .before .before .copy2 .ensures))
 
 pub put-line-spec : {M : Type 1} → statement M
-put-line-spec = tie.close (tie.spec (λ c. search needs) returns (λ c. search needs) (λ c. search needs) returns-2 (λ c. search needs) (λ c. search needs) (λ c. search needs) (λ c. search needs) (λ c. search needs) (λ c. search needs) (λ c. search needs) (λ c. search needs) (λ c. search needs) (λ c. search needs) (λ c. search needs) (λ c. search needs) (λ c. search needs) returns-3)
+put-line-spec =
+    tie.close (tie.spec (λ c. search needs) returns (λ c. search needs) (λ c. search needs) returns-2 (λ c. search needs) (λ c. search needs)
+    (λ c. search needs) (λ c. search needs) (λ c. search needs) (λ c. search needs) (λ c. search needs) (λ c. search needs) (λ c. search needs)
+    (λ c. search needs) (λ c. search needs) (λ c. search needs) (λ c. search needs) returns-3)

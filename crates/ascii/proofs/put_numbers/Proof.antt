@@ -24,7 +24,18 @@ loop-holds : tie.Need-loop-holds Inv-loop μ-loop
 loop-holds c = (omega arith, (omega arith, (refl, none-spaced (now (c .before .before .args .numbers)) (now (c .before .before .args .out)))))
 
 loop-again : tie.Need-loop-again Inv-loop μ-loop
-loop-again c = (omega arith, (omega (arith, c .before .before .put-spaced .ensures .1), (search needs, spaced-behind (now (c .before .before .before .before .before .before .before .before .before .args .numbers)) (c .before .before .before .before .before .before .loop .i) (omega arith) (c .before .before .before .before .before .before .loop .inv .1 .1 .1) (c .before .before .put-spaced .ensures .0))))
+loop-again c =
+    let c6 = c .before .before .before .before .before .before in
+    let c9 = c6 .before .before .before in (
+      omega arith,
+      (
+        omega (arith, c .before .before .put-spaced .ensures .1),
+        (
+          search needs,
+          spaced-behind (now (c9 .args .numbers)) (c6 .loop .i) (omega arith) (c6 .loop .inv .1 .1 .1) (c .before .before .put-spaced .ensures .0),
+        ),
+      ),
+    )
 
 returns : tie.Need-returns Inv-loop μ-loop
 returns c =
@@ -32,4 +43,6 @@ returns c =
     (subst (λ (t : List ℕ). Puts (spaced t) (now (c .before .before .before .before .args .out)) (c .before .loop .used) (c .before .loop .out)) (ap (λ (n : ℕ). take n (now (c .before .before .before .before .args .numbers))) e ∙ take-length (now (c .before .before .before .before .args .numbers))) (c .before .loop .inv .1 .1 .1), omega arith)
 
 pub put-numbers-spec : {M : Type 1} → statement M
-put-numbers-spec = tie.close (tie.spec Inv-loop μ-loop loop-holds (λ c. search needs) (λ c. search needs) (λ c. search needs) (λ c. search needs) (λ c. search needs) (λ c. search needs) (λ c. search needs) (λ c. search needs) (λ c. search needs) loop-again (λ c. search needs) returns)
+put-numbers-spec =
+    tie.close (tie.spec Inv-loop μ-loop loop-holds (λ c. search needs) (λ c. search needs) (λ c. search needs) (λ c. search needs) (λ c. search needs)
+    (λ c. search needs) (λ c. search needs) (λ c. search needs) (λ c. search needs) loop-again (λ c. search needs) returns)

@@ -7,7 +7,17 @@ use Rattle.ascii.proofs.put_spaced.Statement.{statement}
 use Rattle.ascii.proofs.put_spaced.Tie as tie
 
 returns : tie.Need-returns
-returns c = (behind (c .before .before .before .before .before .before .copy .ensures) (c .before .before .put-decimal .ensures .0), omega (arith, c .before .before .before .before .before .before .copy .ensures .count, c .before .before .put-decimal .ensures .1))
+returns c =
+    let c6 = c .before .before .before .before .before .before in (
+      behind (c6 .copy .ensures) (c .before .before .put-decimal .ensures .0),
+      omega (
+        arith,
+        c6 .copy .ensures .count,
+        c .before .before .put-decimal .ensures .1,
+      ),
+    )
 
 pub put-spaced-spec : {M : Type 1} → statement M
-put-spaced-spec = tie.close (tie.spec (λ c. search needs) (λ c. search needs) (λ c. search needs) (λ c. search needs) (λ c. search needs) (λ c. search needs) (λ c. search needs) (λ c. search needs) returns)
+put-spaced-spec =
+    tie.close (tie.spec (λ c. search needs) (λ c. search needs) (λ c. search needs) (λ c. search needs) (λ c. search needs) (λ c. search needs)
+    (λ c. search needs) (λ c. search needs) returns)

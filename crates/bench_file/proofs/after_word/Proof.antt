@@ -64,7 +64,8 @@ module _ {M : Type 1} (𝓤 : URA M) (H : Heap 𝓤) (A : Atoms 𝓤) (W : Given
   put : moving.Puts pastWord cursor moved 𝓤 H A W κ q d
   put n = own-put 𝓤 H A W (held.D κ d) (held.L κ d) 2 (held.fields κ d) n mach
 
-  walk : (C : Calls 𝓤 H) (Λ : Loops 𝓤 H) → FmC 𝓤 H (W .laws) C → Triple 𝓤 (C step-def.name) Past → moving.Walk pastWord cursor moved 𝓤 H A W κ q d C Λ code.function
+  walk : (C : Calls 𝓤 H) (Λ : Loops 𝓤 H) → FmC 𝓤 H (W .laws) C → Triple 𝓤 (C step-def.name) Past
+      → moving.Walk pastWord cursor moved 𝓤 H A W κ q d C Λ code.function
   walk C Λ fm known wt =
       qed W (raw (onEntry 𝓤 H A after.signature (κ, tt) (q, tt) (d, tt) (mach ∷ [], tt)) ∷ []) ∵ enter ! C Λ code.function (mach ∷ []) _ $
       alloc1 ! (λ l₀. alloc1 ! (λ l₁. alloc1 ! (λ l₂. alloc1 ! (λ l₃. alloc1 ! (λ l₄. alloc1 ! (λ l₅. alloc1 ! (λ l₆. alloc0 ! $ params1 ! $ pass1 ! (init ! 10 refl wt) $ pass0 ! $
@@ -79,7 +80,22 @@ module _ {M : Type 1} (𝓤 : URA M) (H : Heap 𝓤) (A : Atoms 𝓤) (W : Given
       -- [the number; the token; what the struct owns; _6; …; _5; …; _4; …; _3; …; _2; …; _1; …; room for _0; …]
       peeks ! usize (Is usize) (shows 𝓤 H A usize) n (u ∷ []) (λ is.
       land ! (from ! (stop !)) (init ! 7 refl (uint-lawful 𝓤 H A W w64 .typed n _ is .0)) $ rewrite ! 7 (λ (z : Val). ‵ (fat fullShare (tyInt w64) l₄ 0 z)) (ap only (is .0)) refl $
-      assigns ! (agg ! (and-then ! (load ! (from ! (stop !)) (look ! 11 refl)) (and-then ! (load ! (from ! (stop !)) (look ! 9 refl)) (and-then ! (load ! (from ! (stop !)) (look ! 7 refl)) (no-more !))))) (from ! (stop !)) (init ! 15 refl (tt, (wt .1 .0, (wt .1 .1 .0, (record { fits = is .1 }, tt))))) $
+      assigns ! (agg ! (and-then ! (load ! (from ! (stop !)) (look ! 11 refl)) (and-then ! (load ! (from ! (stop !)) (look ! 9 refl)) (and-then ! (load ! (from ! (stop !)) (look ! 7 refl)) (no-more !))))) (from ! (stop !)) (init ! 15 refl (
+        tt,
+        (
+          wt .1 .0,
+          (
+            wt .1 .1 .0,
+            (
+              record {
+                fits =
+                    is .1;
+              },
+              tt,
+            ),
+          ),
+        ),
+      )) $
       returns ! (look ! 15 refl) $ forget ! 3 refl $ forget ! 5 refl $ forget ! 7 refl $ forget ! 9 refl $ forget ! 11 refl $ forget ! 13 refl $ forget ! 15 refl $
       move ! (15 ∷ 16 ∷ []) $ free1 ! $ move ! (13 ∷ 14 ∷ []) $ free1 ! $ move ! (11 ∷ 12 ∷ []) $ free1 ! $ move ! (9 ∷ 10 ∷ []) $ free1 ! $ move ! (7 ∷ 8 ∷ []) $ free1 ! $ move ! (5 ∷ 6 ∷ []) $ free1 ! $ move ! (3 ∷ 4 ∷ []) $ free1 ! $ free0 ! $
       by ! (moving.exits pastWord cursor moved 𝓤 H A W κ q d put n u e (is .1)))))))))))))

@@ -35,8 +35,11 @@ get32-requires-2 c κs =
     omega arith
 
 -- The sum is that of all packets.
-sums : (c : tie.After-get322) → c .before .sum-counts .result ≡ wordsBefore (now (c .before .before .before .before .before .before .args .file)) (packets (now (c .before .before .before .before .before .before .args .file)))
-sums c = c .before .sum-counts .ensures ∙ ap (wordsBefore (now (c .before .before .before .before .before .before .args .file))) (c .before .before .get32 .ensures .0)
+sums : (c : tie.After-get322) → c .before .sum-counts .result
+    ≡ wordsBefore (now (c .before .before .before .before .before .before .args .file)) (packets (now (c .before .before .before .before .before .before .args .file)))
+sums c =
+    let c6 = c .before .before .before .before .before .before in
+    c .before .sum-counts .ensures ∙ ap (wordsBefore (now (c6 .args .file))) (c .before .before .get32 .ensures .0)
 
 returns-2 : tie.Need-returns-2
 returns-2 c =

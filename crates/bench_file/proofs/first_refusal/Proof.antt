@@ -32,7 +32,11 @@ loop-again c =
     (omega arith, c .before .before .before .loop .inv .1 ∙ passed file (c .before .before .before .before .before .args .packets) (c .before .before .before .loop .i) (c .before .before .loop-test .taken) (sym (c .before .packet-refusal .ensures) ∙ c .if1 .left))
 
 returns-2 : tie.Need-returns-2 Inv-loop μ-loop
-returns-2 c = sym (c .before .loop .inv .1 ∙ all-passed (now (c .before .before .before .args .file)) (c .before .before .before .args .packets) (c .before .loop .i) (omega arith))
+returns-2 c =
+    sym (c .before .loop .inv .1 ∙ all-passed (now (c .before .before .before .args .file)) (c .before .before .before .args .packets)
+    (c .before .loop .i) (omega arith))
 
 pub first-refusal-spec : {M : Type 1} → statement M
-first-refusal-spec = tie.close (tie.spec Inv-loop μ-loop loop-holds (search needs) (search needs) (search needs) returns (search needs) (search needs) loop-again returns-2)
+first-refusal-spec =
+    tie.close (tie.spec Inv-loop μ-loop loop-holds (search needs) (search needs) (search needs) returns (search needs)
+    (search needs) loop-again returns-2)

@@ -13,7 +13,9 @@ returns : tie.Need-returns
 returns c = sym (packet-outside (now (c .before .before .args .file)) (c .before .before .args .packet) (omega arith))
 
 returns-2 : tie.Need-returns-2
-returns-2 c = sym (packet-past (now (c .before .before .before .before .args .file)) (c .before .before .before .before .args .packet) (omega (arith, c .before .get32 .ensures .0)))
+returns-2 c =
+    let c4 = c .before .before .before .before in
+    sym (packet-past (now (c4 .args .file)) (c4 .args .packet) (omega (arith, c .before .get32 .ensures .0)))
 
 returns-3 : tie.Need-returns-3
 returns-3 c = simp (← c .before .get32 .ensures .0, lt-ltb _ _ (c .if2 .left))

@@ -13,10 +13,14 @@ returns : tie.Need-returns
 returns c = sym (word-outside (now (c .before .before .args .file)) (c .before .before .args .word) (omega arith))
 
 returns-2 : tie.Need-returns-2
-returns-2 c = sym (word-past (now (c .before .before .before .before .args .file)) (c .before .before .before .before .args .word) (omega (arith, c .before .get32 .ensures .0)))
+returns-2 c =
+    let c4 = c .before .before .before .before in
+    sym (word-past (now (c4 .args .file)) (c4 .args .word) (omega (arith, c .before .get32 .ensures .0)))
 
 returns-3 : tie.Need-returns-3
 returns-3 c = simp (← c .get322 .ensures .0, ← c .before .before .get32 .ensures .0, lt-ltb _ _ (c .before .if2 .left))
 
 pub has-word-spec : {M : Type 1} → statement M
-has-word-spec = tie.close (tie.spec returns (search needs) returns-2 (search needs) (search needs) (search needs) (search needs) (search needs) (search needs) returns-3)
+has-word-spec =
+    tie.close (tie.spec returns (search needs) returns-2 (search needs) (search needs) (search needs) (search needs) (search needs)
+    (search needs) returns-3)

@@ -5,7 +5,22 @@ use Rattle.bench_file.proofs.load_packet.Statement.{statement}
 use Rattle.bench_file.proofs.load_packet.Tie as tie
 
 returns : tie.Need-returns
-returns c = simp (c .before .before .before .before .before .before .get64 .ensures, c .before .before .before .before .before .get32 .ensures .0, c .before .before .before .before .get322 .ensures .0, c .before .before .before .get16 .ensures .0, c .before .before .get162 .ensures .0, c .before .get8 .ensures .0, c .get82 .ensures .0)
+returns c =
+    let c4 = c .before .before .before .before in
+    let c5 = c4 .before in
+    let c6 = c5 .before in
+    simp (
+      c6 .get64 .ensures,
+      c5 .get32 .ensures .0,
+      c4 .get322 .ensures .0,
+      c .before .before .before .get16 .ensures .0,
+      c .before .before .get162 .ensures .0,
+      c .before .get8 .ensures .0,
+      c .get82 .ensures .0,
+    )
 
 pub load-packet-spec : {M : Type 1} → statement M
-load-packet-spec = tie.close (tie.spec (search needs) (search needs) (search needs) (search needs) (search needs) (search needs) (search needs) (search needs) (search needs) (search needs) (search needs) (search needs) (search needs) (search needs) (search needs) (search needs) (search needs) (search needs) (search needs) returns)
+load-packet-spec =
+    tie.close (tie.spec (search needs) (search needs) (search needs) (search needs) (search needs) (search needs) (search needs) (search needs)
+    (search needs) (search needs) (search needs) (search needs) (search needs) (search needs) (search needs) (search needs) (search needs)
+    (search needs) (search needs) returns)

@@ -35,10 +35,14 @@ get16-requires : tie.Need-get16-requires
 get16-requires c κs = omega (arith, inside (c .before))
 
 returns : tie.Need-returns
-returns c = packet-told (now (c .before .before .before .before .before .args .file)) (c .before .before .before .before .before .args .packet) (there (c .before .before)) (c .before .load-packet .ensures) (c .get16 .ensures .0)
+returns c =
+    let c5 = c .before .before .before .before .before in
+    packet-told (now (c5 .args .file)) (c5 .args .packet) (there (c .before .before)) (c .before .load-packet .ensures) (c .get16 .ensures .0)
 
 returns-2 : tie.Need-returns-2
-returns-2 c = no-packet (now (c .before .before .before .args .file)) (c .before .before .before .args .packet) (sym (c .before .has-packet .ensures) ∙ c .if1 .left)
+returns-2 c =
+    no-packet (now (c .before .before .before .args .file)) (c .before .before .before .args .packet) (sym
+    (c .before .has-packet .ensures) ∙ c .if1 .left)
 
 pub packet-at-spec : {M : Type 1} → statement M
 packet-at-spec = tie.close (tie.spec (search needs) mul-at add-at load-packet-requires add-get16 get16-requires (search needs) returns returns-2)

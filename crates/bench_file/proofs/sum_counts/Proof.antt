@@ -31,4 +31,6 @@ returns c =
     c .before .loop .inv .1 ∙ ap (wordsBefore (now (c .before .before .before .args .file))) all
 
 pub sum-counts-spec : {M : Type 1} → statement M
-sum-counts-spec = tie.close (tie.spec Inv-loop μ-loop loop-holds (search needs) (search needs) (search needs) (search needs) (search needs) (search needs) (search needs) loop-again returns)
+sum-counts-spec =
+    tie.close (tie.spec Inv-loop μ-loop loop-holds (search needs) (search needs) (search needs) (search needs) (search needs) (search needs)
+    (search needs) loop-again returns)

@@ -17,7 +17,8 @@ use Rattle.bench_file.proofs.word_at.Tie as tie
 there : (c : tie.Then1) → hasWord (now (c .before .before .before .args .file)) (c .before .before .before .args .word) ≡ true
 there c = sym (c .before .has-word .ensures) ∙ c .if1 .taken
 
-inside : (c : tie.Then1) → wordPlace (now (c .before .before .before .args .file)) (c .before .before .before .args .word) + wordBytes ≤ length (now (c .before .before .before .args .file))
+inside : (c : tie.Then1)
+    → wordPlace (now (c .before .before .before .args .file)) (c .before .before .before .args .word) + wordBytes ≤ length (now (c .before .before .before .args .file))
 inside c = word-inside (now (c .before .before .before .args .file)) (c .before .before .before .args .word) (there c)
 
 get32-requires : tie.Need-get32-requires
@@ -30,7 +31,9 @@ add-t10 : tie.Need-add-t10
 add-t10 c = omega (arith, inside (c .before), c .get32 .ensures .0)
 
 returns : tie.Need-returns
-returns c = word-told (now (c .before .before .before .before .args .file)) (c .before .before .before .before .args .word) (there (c .before)) (omega (arith, c .get32 .ensures .0))
+returns c =
+    let c4 = c .before .before .before .before in
+    word-told (now (c4 .args .file)) (c4 .args .word) (there (c .before)) (omega (arith, c .get32 .ensures .0))
 
 returns-2 : tie.Need-returns-2
 returns-2 c = no-word (now (c .before .before .before .args .file)) (c .before .before .before .args .word) (sym (c .before .has-word .ensures) ∙ c .if1 .left)

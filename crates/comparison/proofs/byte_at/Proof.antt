@@ -12,11 +12,15 @@ use borrow.Author.Needs.{needs}
 use Rattle.comparison.proofs.byte_at.Statement.{statement}
 use Rattle.comparison.proofs.byte_at.Tie as tie
 
-place-is : (c : tie.After-known-told) → c .before .at .given .0 .0 ≡ wordPlace (now (c .before .before .before .before .before .args .file)) (c .before .before .before .before .before .args .word)
+place-is : (c : tie.After-known-told) → c .before .at .given .0 .0
+    ≡ wordPlace (now (c .before .before .before .before .before .args .file)) (c .before .before .before .before .before .args .word)
 place-is c = let e = sym (c .before .at .given .1) ∙ c .before .before .before .word-at .ensures .answer ∙ word-found (now (c .before .before .before .before .before .args .file)) (c .before .before .before .before .before .args .word) (c .before .before .before .before .before .pre .0) in cc
 
-inside : (c : tie.After-known-told) → c .before .at .given .0 .0 + c .before .before .before .before .before .args .byte + 1 ≤ length (now (c .before .before .before .before .before .args .file))
-inside c = omega (arith, place-is c, word-inside (now (c .before .before .before .before .before .args .file)) (c .before .before .before .before .before .args .word) (c .before .before .before .before .before .pre .0), c .before .before .before .before .before .pre .1)
+inside : (c : tie.After-known-told)
+    → c .before .at .given .0 .0 + c .before .before .before .before .before .args .byte + 1 ≤ length (now (c .before .before .before .before .before .args .file))
+inside c =
+    let c5 = c .before .before .before .before .before in
+    omega (arith, place-is c, word-inside (now (c5 .args .file)) (c5 .args .word) (c5 .pre .0), c5 .pre .1)
 
 add-result : tie.Need-add-result
 add-result c = omega (arith, inside c)
@@ -42,4 +46,6 @@ returns-3 c =
     absurd (omega arith)
 
 pub byte-at-spec : {M : Type 1} → statement M
-byte-at-spec = tie.close (tie.spec (λ c. search needs) (λ c. search needs) add-result shared-slice-read-result (λ c. search needs) (λ c. search needs) returns returns-2 returns-3)
+byte-at-spec =
+    tie.close (tie.spec (λ c. search needs) (λ c. search needs) add-result shared-slice-read-result (λ c. search needs)
+    (λ c. search needs) returns returns-2 returns-3)

@@ -1,6 +1,6 @@
 -- `common_packets` meets its contract: the smaller of what both headers count.
 -- Assumes nothing.
-use Prim.Native.Nat.{ℕ, min}
+use Prim.Native.Nat.{min}
 use mathlib.Core.Path.{_∙_}
 use denote.Ref.{now}
 use Rattle.comparison.proofs.Looking.{counted-there}

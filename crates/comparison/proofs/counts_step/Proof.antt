@@ -1,6 +1,5 @@
 -- `counts_step` meets its contract.
 -- Assumes nothing.
-use mathlib.Core.Path.{sym}
 use denote.Ref.{now}
 use native.Mathlib.Omega.{arith}
 use Rattle.comparison.proofs.Looking.{header, both-have, counts-looked, counts-passed}
@@ -12,16 +11,30 @@ common-packets-requires : tie.Need-common-packets-requires
 common-packets-requires c κs = header (c .before .before .before .pre .0 .both)
 
 count-at-requires : tie.Need-count-at-requires
-count-at-requires c κs = both-have (c .before .before .before .before .before .before .pre .0 .both) (c .before .before .before .before .before .before .args .l .packet) (omega (arith, c .before .before .common-packets .ensures, c .if1 .taken)) .0
+count-at-requires c κs =
+    let c6 = c .before .before .before .before .before .before in
+    both-have (c6 .pre .0 .both) (c6 .args .l .packet) (omega (arith, c .before .before .common-packets .ensures, c .if1 .taken)) .0
 
 count-at-requires-2 : tie.Need-count-at-requires-2
-count-at-requires-2 c κs = both-have (c .before .before .before .before .before .before .before .pre .0 .both) (c .before .before .before .before .before .before .before .args .l .packet) (omega (arith, c .before .before .before .common-packets .ensures, c .before .if1 .taken)) .1
+count-at-requires-2 c κs =
+    let c7 = c .before .before .before .before .before .before .before in
+    both-have (c7 .pre .0 .both) (c7 .args .l .packet) (omega (arith, c .before .before .before .common-packets .ensures, c .before .if1 .taken)) .1
 
 returns : tie.Need-returns
-returns c = counts-looked (now (c .before .before .before .before .before .before .before .before .before .before .before .before .before .args .a)) (now (c .before .before .before .before .before .before .before .before .before .before .before .before .before .args .b)) (c .before .before .before .before .before .before .before .before .before .before .before .before .before .args .l) (c .before .before .before .before .before .before .before .before .before .common-packets .ensures) (c .before .before .before .before .before .before .before .if1 .taken) (c .before .before .before .before .before .before .count-at .ensures .0) (c .before .before .before .before .before .count-at2 .ensures .0) (c .before .before .told .ensures)
+returns c =
+    let c5 = c .before .before .before .before .before in
+    let c6 = c5 .before in
+    let c7 = c6 .before in
+    let c9 = c7 .before .before in
+    let c13 = c9 .before .before .before .before in
+    counts-looked (now (c13 .args .a)) (now (c13 .args .b)) (c13 .args .l) (c9 .common-packets .ensures) (c7 .if1 .taken) (c6 .count-at .ensures .0) (c5 .count-at2 .ensures .0) (c .before .before .told .ensures)
 
 returns-2 : tie.Need-returns-2
-returns-2 c = counts-passed (now (c .before .before .before .before .before .before .args .a)) (now (c .before .before .before .before .before .before .args .b)) (c .before .before .before .before .before .before .args .l) (now (c .before .before .before .before .before .before .args .out)) (c .before .before .common-packets .ensures) (c .if1 .left)
+returns-2 c =
+    let c6 = c .before .before .before .before .before .before in
+    counts-passed (now (c6 .args .a)) (now (c6 .args .b)) (c6 .args .l) (now (c6 .args .out)) (c .before .before .common-packets .ensures) (c .if1 .left)
 
 pub counts-step-spec : {M : Type 1} → statement M
-counts-step-spec = tie.close (tie.spec common-packets-requires count-at-requires count-at-requires-2 (λ c. search needs) (λ c. search needs) (λ c. search needs) returns returns-2)
+counts-step-spec =
+    tie.close (tie.spec common-packets-requires count-at-requires count-at-requires-2 (λ c. search needs) (λ c. search needs)
+    (λ c. search needs) returns returns-2)

@@ -10,10 +10,14 @@ common-packets-requires : tie.Need-common-packets-requires
 common-packets-requires c κs = (omega (arith, header (c .before .before .pre .both) .0), omega (arith, header (c .before .before .pre .both) .1))
 
 returns : tie.Need-returns
-returns c = packet-more (now (c .before .before .before .before .before .args .a)) (now (c .before .before .before .before .before .args .b)) (c .before .before .before .before .before .args .l) (now (c .before .before .before .before .before .args .a)) (c .before .before .common-packets .ensures) (c .if1 .taken)
+returns c =
+    let c5 = c .before .before .before .before .before in
+    packet-more (now (c5 .args .a)) (now (c5 .args .b)) (c5 .args .l) (now (c5 .args .a)) (c .before .before .common-packets .ensures) (c .if1 .taken)
 
 returns-2 : tie.Need-returns-2
-returns-2 c = packet-last (now (c .before .before .before .before .before .args .a)) (now (c .before .before .before .before .before .args .b)) (c .before .before .before .before .before .args .l) (now (c .before .before .before .before .before .args .a)) (c .before .before .common-packets .ensures) (c .if1 .left)
+returns-2 c =
+    let c5 = c .before .before .before .before .before in
+    packet-last (now (c5 .args .a)) (now (c5 .args .b)) (c5 .args .l) (now (c5 .args .a)) (c .before .before .common-packets .ensures) (c .if1 .left)
 
 pub packet-step-spec : {M : Type 1} → statement M
 packet-step-spec = tie.close (tie.spec common-packets-requires returns returns-2)

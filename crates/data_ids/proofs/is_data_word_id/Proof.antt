@@ -5,7 +5,15 @@ use Rattle.data_ids.proofs.is_data_word_id.Statement.{statement}
 use Rattle.data_ids.proofs.is_data_word_id.Tie as tie
 
 returns : tie.Need-returns
-returns c = simp (c .before .before .before .before .within .ensures, c .before .before .before .within2 .ensures, c .before .before .within3 .ensures, c .before .within4 .ensures, c .within5 .ensures)
+returns c =
+    let c4 = c .before .before .before .before in
+    simp (
+      c4 .within .ensures,
+      c .before .before .before .within2 .ensures,
+      c .before .before .within3 .ensures,
+      c .before .within4 .ensures,
+      c .within5 .ensures,
+    )
 
 pub is-data-word-id-spec : {M : Type 1} → statement M
 is-data-word-id-spec = tie.close (tie.spec (search needs) (search needs) (search needs) (search needs) (search needs) returns)

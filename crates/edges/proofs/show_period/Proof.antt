@@ -15,7 +15,20 @@ abbrev μ-loop : tie.MeasureT-loop
 μ-loop t₀ bc₀ differ₀ sum₀ k₀ t8 t9 t10 t bc differ sum k = 3564 - k
 
 loop-again : tie.Need-loop-again Inv-loop μ-loop
-loop-again c = (search needs, (search needs, (⊎-elim (λ w. omega arith) (λ w. omega arith) (c .before .if1 .came), (⊎-elim (λ w. omega arith) (λ w. omega arith) (c .before .if1 .came), c .before .before .before .before .word2 .ensures .good))))
+loop-again c = (
+  search needs,
+  (
+    search needs,
+    (
+      ⊎-elim (λ w. omega arith) (λ w. omega arith) (c .before .if1 .came),
+      (⊎-elim (λ w. omega arith) (λ w. omega arith) (c .before .if1 .came), c .before .before .before .before .word2 .ensures .good),
+    ),
+  ),
+)
 
 pub show-period-spec : {M : Type 1} → statement M
-show-period-spec = tie.close (tie.spec Inv-loop μ-loop (λ c. search needs) (λ c. search needs) (λ c. search needs) (λ c. search needs) (λ c. search needs) (λ c. search needs) (λ c. search needs) (λ c. search needs) (λ c. search needs) (λ c. search needs) (λ c. search needs) (λ c. search needs) (λ c. search needs) (λ c. search needs) (λ c. search needs) loop-again (λ c. search needs) (λ c. search needs) (λ c. search needs) (λ c. search needs) (λ c. search needs) (λ c. search needs) (λ c. search needs) (λ c. search needs) (λ c. search needs))
+show-period-spec =
+    tie.close (tie.spec Inv-loop μ-loop (λ c. search needs) (λ c. search needs) (λ c. search needs) (λ c. search needs) (λ c. search needs)
+    (λ c. search needs) (λ c. search needs) (λ c. search needs) (λ c. search needs) (λ c. search needs) (λ c. search needs) (λ c. search needs)
+    (λ c. search needs) (λ c. search needs) (λ c. search needs) loop-again (λ c. search needs) (λ c. search needs) (λ c. search needs)
+    (λ c. search needs) (λ c. search needs) (λ c. search needs) (λ c. search needs) (λ c. search needs) (λ c. search needs))

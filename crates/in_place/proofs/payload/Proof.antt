@@ -1,7 +1,5 @@
 -- `payload` meets its contract. The loop's invariant is that of the payload call on a tracker, of the tracker that the numbers are.
 -- Assumes nothing.
-use denote.Ref.{now}
-use mathlib.Core.Path.{_≡_, sym, _∙_}
 use Prim.Native.Nat.{_-_}
 use native.Mathlib.Omega.{arith}
 use lib.ListN.{length}

@@ -1,7 +1,6 @@
 -- `word` meets its contract.
 -- Assumes nothing.
 use denote.Ref.{now}
-use mathlib.Core.Path.{refl}
 use native.Mathlib.Omega.{arith}
 use borrow.Author.Tests.{eq-eqb, ne-eqb}
 use Rattle.in_place.proofs.Steps.{word-refused-1, word-refused-2, word-refused-3, word-quiet, still-takes, as-before}

@@ -7,10 +7,14 @@ use Rattle.khandzorul.proofs.khz_packet.Statement.{statement}
 use Rattle.khandzorul.proofs.khz_packet.Tie as tie
 
 returns : tie.Need-returns
-returns c = packet-none (now (c .before .before .before .before .args .tracker)) (c .before .is-tracker .ensures) (c .if1 .taken)
+returns c =
+    let c4 = c .before .before .before .before in
+    packet-none (now (c4 .args .tracker)) (c .before .is-tracker .ensures) (c .if1 .taken)
 
 packet-requires : tie.Need-packet-requires
-packet-requires c κs = is-good (now (c .before .before .before .before .before .args .tracker)) (c .before .before .is-tracker .ensures) (c .before .if1 .left)
+packet-requires c κs =
+    let c5 = c .before .before .before .before .before in
+    is-good (now (c5 .args .tracker)) (c .before .before .is-tracker .ensures) (c .before .if1 .left)
 
 returns-2 : tie.Need-returns-2
 returns-2 c =

@@ -7,10 +7,14 @@ use Rattle.khandzorul.proofs.khz_reset.Statement.{statement}
 use Rattle.khandzorul.proofs.khz_reset.Tie as tie
 
 returns : tie.Need-returns
-returns c = reset-none (now (c .before .before .before .before .args .tracker)) (c .before .is-tracker .ensures) (c .if1 .taken)
+returns c =
+    let c4 = c .before .before .before .before in
+    reset-none (now (c4 .args .tracker)) (c .before .is-tracker .ensures) (c .if1 .taken)
 
 reset-requires : tie.Need-reset-requires
-reset-requires c κs = is-good (now (c .before .before .before .before .before .args .tracker)) (c .before .before .is-tracker .ensures) (c .before .if1 .left)
+reset-requires c κs =
+    let c5 = c .before .before .before .before .before in
+    is-good (now (c5 .args .tracker)) (c .before .before .is-tracker .ensures) (c .before .if1 .left)
 
 returns-2 : tie.Need-returns-2
 returns-2 c =

@@ -10,11 +10,21 @@ returns : tie.Need-returns
 returns c = start-none (now (c .before .before .args .tracker)) _ (c .if1 .taken)
 
 returns-2 : tie.Need-returns-2
-returns-2 c = start-refused (now (c .before .before .before .before .args .tracker)) _ (c .before .before .if1 .left) (c .before .are-settings .ensures) (c .if2 .taken)
+returns-2 c =
+    let c4 = c .before .before .before .before in
+    start-refused (now (c4 .args .tracker)) _ (c .before .before .if1 .left) (c .before .are-settings .ensures) (c .if2 .taken)
 
 period-of-requires : tie.Need-period-of-requires
 period-of-requires c κs = let s = c .before .before .before .before .args in
-    settings-fit (now (s .tracker)) (record { running = s .running; frames = s .frames; periodic = s .periodic; period = s .period; rule = s .rule }) (c .before .before .if1 .left) (c .before .are-settings .ensures) (c .if2 .left)
+    settings-fit (now (s .tracker)) (record {
+      running =
+          s .running;
+      frames = s .frames;
+      periodic = s .periodic;
+      period = s .period;
+      rule = s .rule;
+    }) (c .before .before .if1 .left)
+    (c .before .are-settings .ensures) (c .if2 .left)
 
 returns-3 : tie.Need-returns-3
 returns-3 c =

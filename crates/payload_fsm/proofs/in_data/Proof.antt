@@ -6,19 +6,57 @@ use Rattle.payload_fsm.proofs.in_data.Statement.{statement}
 use Rattle.payload_fsm.proofs.in_data.Tie as tie
 
 returns : tie.Need-returns
-returns c = simp (← c .before .before .before .before .id .ensures, eq-eqb _ _ (c .before .before .before .if1 .taken), ← c .before .before .packet-done .ensures, c .before .if2 .taken, c .taken .ensures)
+returns c =
+    let c4 = c .before .before .before .before in
+    simp (
+      ← c4 .id .ensures,
+      eq-eqb _ _ (c .before .before .before .if1 .taken),
+      ← c .before .before .packet-done .ensures,
+      c .before .if2 .taken,
+      c .taken .ensures,
+    )
 
 returns-2 : tie.Need-returns-2
-returns-2 c = simp (← c .before .before .before .before .id .ensures, eq-eqb _ _ (c .before .before .before .if1 .taken), ← c .before .before .packet-done .ensures, c .before .if2 .left, c .taken2 .ensures)
+returns-2 c =
+    let c4 = c .before .before .before .before in
+    simp (
+      ← c4 .id .ensures,
+      eq-eqb _ _ (c .before .before .before .if1 .taken),
+      ← c .before .before .packet-done .ensures,
+      c .before .if2 .left,
+      c .taken2 .ensures,
+    )
 
 returns-3 : tie.Need-returns-3
 returns-3 c = simp (← c .before .before .before .id .ensures, ne-eqb _ _ (c .before .before .if1 .left), eq-eqb _ _ (c .before .if3 .taken), c .taken3 .ensures)
 
 returns-4 : tie.Need-returns-4
-returns-4 c = simp (← c .before .before .before .before .before .id .ensures, ne-eqb _ _ (c .before .before .before .before .if1 .left), ne-eqb _ _ (c .before .before .before .if3 .left), ← c .before .before .is-data-word-id .ensures, c .before .if4 .taken, c .taken4 .ensures)
+returns-4 c =
+    let c4 = c .before .before .before .before in
+    let c5 = c4 .before in
+    simp (
+      ← c5 .id .ensures,
+      ne-eqb _ _ (c4 .if1 .left),
+      ne-eqb _ _ (c .before .before .before .if3 .left),
+      ← c .before .before .is-data-word-id .ensures,
+      c .before .if4 .taken,
+      c .taken4 .ensures,
+    )
 
 returns-5 : tie.Need-returns-5
-returns-5 c = simp (← c .before .before .before .before .before .id .ensures, ne-eqb _ _ (c .before .before .before .before .if1 .left), ne-eqb _ _ (c .before .before .before .if3 .left), ← c .before .before .is-data-word-id .ensures, c .before .if4 .left, c .guess .ensures)
+returns-5 c =
+    let c4 = c .before .before .before .before in
+    let c5 = c4 .before in
+    simp (
+      ← c5 .id .ensures,
+      ne-eqb _ _ (c4 .if1 .left),
+      ne-eqb _ _ (c .before .before .before .if3 .left),
+      ← c .before .before .is-data-word-id .ensures,
+      c .before .if4 .left,
+      c .guess .ensures,
+    )
 
 pub in-data-spec : {M : Type 1} → statement M
-in-data-spec = tie.close (tie.spec (search needs) (search needs) (search needs) returns (search needs) returns-2 (search needs) returns-3 (search needs) (search needs) returns-4 (search needs) returns-5)
+in-data-spec =
+    tie.close (tie.spec (search needs) (search needs) (search needs) returns (search needs) returns-2 (search needs) returns-3 (search needs)
+    (search needs) returns-4 (search needs) returns-5)

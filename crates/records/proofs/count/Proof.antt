@@ -2,12 +2,10 @@
 -- Assumes nothing.
 use borrow.Author.Needs.{needs}
 use mathlib.Core.Path.{_≡_, refl, ap, _∙_}
-use mathlib.Core.List.{List}
 use mathlib.Core.Logic.{⊎-elim}
 use Prim.Native.Nat.{_≤_, _-_}
-use lib.ListN.{take, length}
+use lib.ListN.{take}
 use lib.Seq.{take-all}
-use Rattle.records.specs.declared.Row.{Row}
 use Rattle.records.specs.Records.{mostRecords, none, count}
 use Rattle.records.proofs.Given.{count-more}
 use native.Mathlib.Omega.{arith}
@@ -33,4 +31,6 @@ returns : tie.Need-returns Inv-loop μ-loop
 returns c = c .before .loop .inv .1 .1 ∙ ap count (take-all (c .before .loop .i) (c .before .before .args .t1) (search needs))
 
 pub count-spec : {M : Type 1} → statement M
-count-spec = tie.close (tie.spec Inv-loop μ-loop loop-holds (λ c. search needs) (λ c. search needs) (λ c. search needs) (λ c. search needs) (λ c. search needs) loop-again returns)
+count-spec =
+    tie.close (tie.spec Inv-loop μ-loop loop-holds (λ c. search needs) (λ c. search needs) (λ c. search needs) (λ c. search needs)
+    (λ c. search needs) loop-again returns)

@@ -3,7 +3,6 @@
 use borrow.Author.Needs.{needs}
 use denote.Ref.{now}
 use mathlib.Core.Logic.{⊎-elim}
-use mathlib.Core.Path.{_≡_}
 use Prim.Native.Nat.{_+_, _-_, _≤_}
 use lib.ListN.{length}
 use Rattle.records.specs.Records.{recordWidth, mostRecords}
@@ -42,10 +41,15 @@ part-put-start : tie.Need-part-put-start Inv-loop μ-loop
 part-put-start c = omega (arith, fits c)
 
 put-requires : tie.Need-put-requires Inv-loop μ-loop
-put-requires c κs = tail-long (c .before .before .before .before .loop .used) recordWidth (c .before .before .before .before .loop .out) (fits (c .before))
+put-requires c κs =
+    let c4 = c .before .before .before .before in
+    tail-long (c4 .loop .used) recordWidth (c4 .loop .out) (fits (c .before))
 
 add-used : tie.Need-add-used Inv-loop μ-loop
-add-used c = omega (arith, fits (c .before .before .before .before), c .before .before .before .before .before .before .before .before .before .before .before .good .0)
+add-used c =
+    let c4 = c .before .before .before .before in
+    let c11 = c4 .before .before .before .before .before .before .before in
+    omega (arith, fits (c4), c11 .good .0)
 
 loop-again : tie.Need-loop-again Inv-loop μ-loop
 loop-again c =
@@ -60,4 +64,6 @@ returns-2 c =
     (omega (arith, counted-at .count .ensures, c .before .before .if1 .left))
 
 pub write-spec : {M : Type 1} → statement M
-write-spec = tie.close (tie.spec Inv-loop μ-loop (λ c. search needs) returns loop-holds (λ c. search needs) (λ c. search needs) mul-put sub-put part-put-start (λ c. search needs) put-requires add-used (λ c. search needs) (λ c. search needs) loop-again (λ c. search needs) returns-2)
+write-spec =
+    tie.close (tie.spec Inv-loop μ-loop (λ c. search needs) returns loop-holds (λ c. search needs) (λ c. search needs) mul-put sub-put part-put-start
+    (λ c. search needs) put-requires add-used (λ c. search needs) (λ c. search needs) loop-again (λ c. search needs) returns-2)

@@ -16,7 +16,7 @@ returns-2 c =
     let c10 = c6 .before .before .before .before in
     let s = c10 .before .before .before .before .args in
     let long = c10 .before .before .if1 .left in
-    simp (c .before .before .stored .ensures, c6 .first .ensures, c10 .rest .ensures) (stored-all (now (s .a)) (s .t) long) ∙ wrote (now (s .a)) (s .t) long
+    simp (c .before .before .stored .ensures, c6 .up-to-seen .ensures, c10 .unused .ensures) (stored-all (now (s .a)) (s .t) long) ∙ wrote (now (s .a)) (s .t) long
 
 pub encode-spec : {M : Type 1} → statement M
 encode-spec = tie.close (tie.spec returns (λ c. search needs) (λ c. search needs) (λ c. search needs) (λ c. search needs) returns-2)

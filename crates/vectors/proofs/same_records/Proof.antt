@@ -13,4 +13,5 @@ abbrev μ-loop : tie.MeasureT-loop
 μ-loop fd out n same₀ i₀ i-end same i = i-end - i
 
 pub same-records-spec : {M : Type 1} → statement M
-same-records-spec = tie.close (tie.spec Inv-loop μ-loop (search needs) (search needs) (search needs) (search needs) (search needs) (search needs) (search needs))
+same-records-spec =
+    tie.close (tie.spec Inv-loop μ-loop (search needs) (search needs) (search needs) (search needs) (search needs) (search needs) (search needs))

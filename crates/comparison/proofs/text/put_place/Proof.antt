@@ -1,8 +1,6 @@
 -- `put_place` meets its contract: each kind of place has its line, and every line has room.
 -- Assumes nothing.
-use mathlib.Core.List.{List, [], _∷_}
 use native.Mathlib.Omega.{arith}
-use Rattle.ascii.specs.Text.{ascii, line, mostLine}
 use Rattle.ascii.proofs.Putting.{in-room}
 use Rattle.comparison.specs.Text.{lineOf}
 use borrow.Author.Needs.{needs}
@@ -11,23 +9,43 @@ use Rattle.comparison.proofs.text.put_place.Tie as tie
 
 returns : tie.Need-returns
 unfolding lineOf
-returns c = rw (c .before .before .before .before .before .before .enum-told .given .1) (in-room _ _ (omega (arith, c .before .before .before .before .before .before .before .before .before .pre)) (c .before .before .put-line .ensures))
+returns c =
+    let c6 = c .before .before .before .before .before .before in
+    let c9 = c6 .before .before .before in
+    rw (c6 .enum-told .given .1) (in-room _ _ (omega (arith, c9 .pre)) (c .before .before .put-line .ensures))
 
 returns-2 : tie.Need-returns-2
 unfolding lineOf
-returns-2 c = rw (c .before .before .before .before .before .before .enum-told2 .given .1) (in-room _ _ (omega (arith, c .before .before .before .before .before .before .before .before .before .pre)) (c .before .before .put-line2 .ensures))
+returns-2 c =
+    let c6 = c .before .before .before .before .before .before in
+    let c9 = c6 .before .before .before in
+    rw (c6 .enum-told2 .given .1) (in-room _ _ (omega (arith, c9 .pre)) (c .before .before .put-line2 .ensures))
 
 returns-3 : tie.Need-returns-3
 unfolding lineOf
-returns-3 c = rw (c .before .before .before .before .before .before .before .at .given .1) (in-room _ _ (omega (arith, c .before .before .before .before .before .before .before .before .before .before .pre)) (c .before .before .put-line3 .ensures))
+returns-3 c =
+    let c7 = c .before .before .before .before .before .before .before in
+    let c10 = c7 .before .before .before in
+    rw (c7 .at .given .1) (in-room _ _ (omega (arith, c10 .pre)) (c .before .before .put-line3 .ensures))
 
 returns-4 : tie.Need-returns-4
 unfolding lineOf
-returns-4 c = rw (c .before .before .before .before .before .before .before .at2 .given .1) (in-room _ _ (omega (arith, c .before .before .before .before .before .before .before .before .before .before .pre)) (c .before .before .put-line4 .ensures))
+returns-4 c =
+    let c7 = c .before .before .before .before .before .before .before in
+    let c10 = c7 .before .before .before in
+    rw (c7 .at2 .given .1) (in-room _ _ (omega (arith, c10 .pre)) (c .before .before .put-line4 .ensures))
 
 returns-5 : tie.Need-returns-5
 unfolding lineOf
-returns-5 c = rw (c .before .before .before .before .before .before .before .at3 .given .1) (in-room _ _ (omega (arith, c .before .before .before .before .before .before .before .before .before .before .pre)) (c .before .before .put-line5 .ensures))
+returns-5 c =
+    let c7 = c .before .before .before .before .before .before .before in
+    let c10 = c7 .before .before .before in
+    rw (c7 .at3 .given .1) (in-room _ _ (omega (arith, c10 .pre)) (c .before .before .put-line5 .ensures))
 
 pub put-place-spec : {M : Type 1} → statement M
-put-place-spec = tie.close (tie.spec (λ c. search needs) (λ c. search needs) (λ c. search needs) (λ c. search needs) (λ c. search needs) (λ c. search needs) (λ c. search needs) (λ c. search needs) (λ c. search needs) (λ c. search needs) (λ c. search needs) (λ c. search needs) (λ c. search needs) (λ c. search needs) (λ c. search needs) (λ c. search needs) (λ c. search needs) (λ c. search needs) (λ c. search needs) (λ c. search needs) (λ c. search needs) returns (λ c. search needs) returns-2 (λ c. search needs) returns-3 (λ c. search needs) returns-4 (λ c. search needs) returns-5)
+put-place-spec =
+    tie.close (tie.spec (λ c. search needs) (λ c. search needs) (λ c. search needs) (λ c. search needs) (λ c. search needs) (λ c. search needs)
+    (λ c. search needs) (λ c. search needs) (λ c. search needs) (λ c. search needs) (λ c. search needs) (λ c. search needs) (λ c. search needs)
+    (λ c. search needs) (λ c. search needs) (λ c. search needs) (λ c. search needs) (λ c. search needs) (λ c. search needs) (λ c. search needs)
+    (λ c. search needs) returns (λ c. search needs) returns-2 (λ c. search needs) returns-3 (λ c. search needs) returns-4
+    (λ c. search needs) returns-5)

@@ -1,10 +1,5 @@
 -- `pass` meets its contract.
 -- Assumes nothing.
-use mathlib.Core.Path.{_≡_, ap, sym, _∙_}
-use Prim.Native.Nat.{ℕ, _+_, _-_, _*_, _/_}
-use native.Mathlib.Omega.{arith}
-use borrow.Author.Tests.{eq-eqb, ne-eqb}
-use denote.Ref.{now}
 use Rattle.in_place.proofs.Runs.{some-passed, none-passed}
 use borrow.Author.Needs.{needs}
 use Rattle.in_place.proofs.quiet.pass.Statement.{statement}

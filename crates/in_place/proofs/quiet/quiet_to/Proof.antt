@@ -35,7 +35,9 @@ returns-2 c =
       within = omega (arith, h .within, c .before .before .before .before .before .least .ensures);
       room = omega (arith, h .to-is, h .within, c .before .before .before .before .before .least .ensures, s .pre .0 .good .count);
       among = λ some. sym (c6 .before .before .among-data .ensures) ∙ not-false (c6 .before .before .among-data .result) (c6 .before .if1 .left);
-      each = λ i lt. is-quiet (idAt b (s .args .at) i) (c .before .quiet-ids .ensures) (c .before .before .checked-lanes .ensures) (c6 .before .before .before .before .shared-slice-known2 .given _ .fits) (h .each i lt);
+      each =
+          λ i lt. is-quiet (idAt b (s .args .at) i) (c .before .quiet-ids .ensures) (c .before .before .checked-lanes .ensures)
+          (c6 .before .before .before .before .shared-slice-known2 .given _ .fits) (h .each i lt);
     }
 
 pub quiet-to-spec : {M : Type 1} → statement M

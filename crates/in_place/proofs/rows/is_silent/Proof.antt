@@ -18,7 +18,9 @@ returns c =
     (simp (c .before .check-at-initial-ihw .ensures, c3 .before .settings .ensures, c3 .packet .ensures, c .before .before .in-three .ensures))
 
 returns-2 : tie.Need-returns-2
-returns-2 c = kind-silent (trackerIn (now (c .before .before .before .before .before .args .a))) (c .before .before .before .before .before .args .taken) (c .before .before .before .before .before .args .word) K.IhwContinuation (c .before .before .enum-told2 .given .1) (c .silent2 .ensures) (simp (c .before .check-continuation .ensures))
+returns-2 c =
+    let c5 = c .before .before .before .before .before in
+    kind-silent (trackerIn (now (c5 .args .a))) (c5 .args .taken) (c5 .args .word) K.IhwContinuation (c .before .before .enum-told2 .given .1) (c .silent2 .ensures) (simp (c .before .check-continuation .ensures))
 
 returns-3 : tie.Need-returns-3
 returns-3 c =

@@ -16,13 +16,35 @@ returns-2 : tie.Need-returns-2
 returns-2 c = simp (c .before .enum-told2 .given .1, c .check-continuation .ensures)
 
 returns-3 : tie.Need-returns-3
-returns-3 c = simp (c .before .before .before .before .enum-told3 .given .1, c .check-tdh-no-continuation .ensures, c .before .before .before .settings2 .ensures, c .before .before .packet2 .ensures, c .before .internal .ensures)
+returns-3 c =
+    let c4 = c .before .before .before .before in
+    simp (
+      c4 .enum-told3 .given .1,
+      c .check-tdh-no-continuation .ensures,
+      c .before .before .before .settings2 .ensures,
+      c .before .before .packet2 .ensures,
+      c .before .internal .ensures,
+    )
 
 returns-4 : tie.Need-returns-4
-returns-4 c = simp (c .before .before .before .before .enum-told4 .given .1, c .check-after-tdt-packet-done-true .ensures, c .before .before .before .settings3 .ensures, c .before .before .tdh .ensures, c .before .internal2 .ensures)
+returns-4 c =
+    let c4 = c .before .before .before .before in
+    simp (
+      c4 .enum-told4 .given .1,
+      c .check-after-tdt-packet-done-true .ensures,
+      c .before .before .before .settings3 .ensures,
+      c .before .before .tdh .ensures,
+      c .before .internal2 .ensures,
+    )
 
 returns-5 : tie.Need-returns-5
-returns-5 c = simp (c .before .before .before .enum-told5 .given .1, c .check-continuation2 .ensures, c .before .before .settings4 .ensures, c .before .tdh2 .ensures)
+returns-5 c =
+    simp (
+      c .before .before .before .enum-told5 .given .1,
+      c .check-continuation2 .ensures,
+      c .before .before .settings4 .ensures,
+      c .before .tdh2 .ensures,
+    )
 
 returns-6 : tie.Need-returns-6
 returns-6 c =
@@ -35,7 +57,13 @@ returns-7 : tie.Need-returns-7
 returns-7 c = simp (c .before .before .before .enum-told6 .given .1, c .check2 .ensures, c .before .before .settings6 .ensures)
 
 returns-8 : tie.Need-returns-8
-returns-8 c = simp (c .before .before .before .enum-told7 .given .1, c .check-at-ddw0 .ensures, c .before .before .settings7 .ensures, c .before .packet3 .ensures)
+returns-8 c =
+    simp (
+      c .before .before .before .enum-told7 .given .1,
+      c .check-at-ddw0 .ensures,
+      c .before .before .settings7 .ensures,
+      c .before .packet3 .ensures,
+    )
 
 pub rows-spec : {M : Type 1} → statement M
 rows-spec =

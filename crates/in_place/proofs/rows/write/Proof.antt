@@ -9,7 +9,9 @@ use Rattle.in_place.proofs.rows.write.Statement.{statement}
 use Rattle.in_place.proofs.rows.write.Tie as tie
 
 returns : tie.Need-returns
-returns c = quiet-wrote (c .before .before .before .before .args .here) (rowsOf (trackerIn (now (c .before .before .before .before .args .a))) (c .before .before .before .before .args .taken) (c .before .before .before .before .args .word)) (now (c .before .before .before .before .args .out)) (c .before .is-silent .ensures (c .if1 .taken))
+returns c =
+    let c4 = c .before .before .before .before in
+    quiet-wrote (c4 .args .here) (rowsOf (trackerIn (now (c4 .args .a))) (c4 .args .taken) (c4 .args .word)) (now (c4 .args .out)) (c .before .is-silent .ensures (c .if1 .taken))
 
 returns-2 : tie.Need-returns-2
 returns-2 c = of-rows (c .before .before .before .rows .ensures) (c .before .before .write .ensures)

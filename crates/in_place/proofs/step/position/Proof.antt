@@ -13,10 +13,14 @@ add-first : tie.Need-add-first
 add-first c = omega (arith, position-low (packetIn (now (c .before .args .a))) (c .before .pre .good .packet))
 
 add-result : tie.Need-add-result
-add-result c = omega (arith, position-low (packetIn (now (c .before .before .before .before .args .a))) (c .before .before .before .before .pre .good .packet), c .before .before .before .before .pre .good .count)
+add-result c =
+    let c4 = c .before .before .before .before in
+    omega (arith, position-low (packetIn (now (c4 .args .a))) (c4 .pre .good .packet), c4 .pre .good .count)
 
 add-result-2 : tie.Need-add-result-2
-add-result-2 c = omega (arith, position-low (packetIn (now (c .before .before .before .before .args .a))) (c .before .before .before .before .pre .good .packet), c .before .before .before .before .pre .good .count)
+add-result-2 c =
+    let c4 = c .before .before .before .before in
+    omega (arith, position-low (packetIn (now (c4 .args .a))) (c4 .pre .good .packet), c4 .pre .good .count)
 
 returns : tie.Need-returns
 returns c = simp (eq-eqb _ _ (c .before .if1 .taken))

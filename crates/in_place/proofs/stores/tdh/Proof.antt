@@ -20,7 +20,7 @@ returns c =
     let c18 = c12 .before .before .before .before .before .before in
     let l = now (c18 .before .args .a) in
     tdh-stored (c18 .before .args .word) l (c18 .before .args .here) (c12 .before .before .before .before .before .trigger-bc .ensures) (c12 .before .before .before .before .trigger-orbit .ensures) (ap (λ (n : ℕ). eqb n 1) (c12 .before .before .internal-trigger .ensures))
-    (ap (λ (n : ℕ). isOn (place l P.frames) && (not (isOn (place l P.live)) && eqb n 0)) (c12 .before .before .before .continuation .ensures)) (c6 .before .before .before .before .tdh-fields .ensures) (c6 .put-three-if .ensures) (c .before .before .put-if .ensures)
+    (ap (λ (n : ℕ). isOn (place l P.frames) && (not (isOn (place l P.opened)) && eqb n 0)) (c12 .before .before .before .continuation .ensures)) (c6 .before .before .before .before .tdh-fields .ensures) (c6 .put-three-if .ensures) (c .before .before .put-if .ensures)
 
 pub tdh-spec : {M : Type 1} → statement M
 tdh-spec =

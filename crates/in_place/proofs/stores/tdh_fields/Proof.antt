@@ -1,7 +1,5 @@
 -- `tdh_fields` meets its contract.
 -- Assumes nothing.
-use lib.ListN.{length-set}
-use native.Mathlib.Omega.{arith}
 use borrow.Author.Needs.{needs}
 use Rattle.in_place.proofs.stores.tdh_fields.Statement.{statement}
 use Rattle.in_place.proofs.stores.tdh_fields.Tie as tie

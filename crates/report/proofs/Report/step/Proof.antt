@@ -15,7 +15,10 @@ stage-step-requires : tie.Need-stage-step-requires
 stage-step-requires c κs = (c .before .before .before .before .pre, omega (arith, c .before .if1 .left))
 
 returns-2 : tie.Need-returns-2
-returns-2 c = stepped (laws _) (c .before .before .before .before .before .before .before .pre) (omega (arith, c .before .before .before .before .if1 .left)) (c .before .before .stage-step .ensures)
+returns-2 c =
+    let c4 = c .before .before .before .before in
+    let c7 = c4 .before .before .before in
+    stepped (laws _) (c7 .pre) (omega (arith, c4 .if1 .left)) (c .before .before .stage-step .ensures)
 
 pub step-spec : {M : Type 1} → statement M
 step-spec = tie.close (tie.spec returns stage-step-requires (λ c. search needs) returns-2)

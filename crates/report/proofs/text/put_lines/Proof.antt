@@ -13,7 +13,8 @@ use Rattle.report.proofs.text.put_lines.Statement.{statement}
 use Rattle.report.proofs.text.put_lines.Tie as tie
 
 abbrev Inv-loop : tie.InvT-loop
-Inv-loop out₀ records n used₀ i₀ out used i = (i ≤ n) × ((used ≤ i * mostLine) × ((length out ≡ length out₀) × Puts (lines (recordsAt i records)) out₀ used out))
+Inv-loop out₀ records n used₀ i₀ out used i =
+    (i ≤ n) × ((used ≤ i * mostLine) × ((length out ≡ length out₀) × Puts (lines (recordsAt i records)) out₀ used out))
 
 abbrev μ-loop : tie.MeasureT-loop
 μ-loop out₀ records n used₀ i₀ out used i = n - i
@@ -22,7 +23,18 @@ loop-holds : tie.Need-loop-holds Inv-loop μ-loop
 loop-holds c = (omega arith, (omega arith, (refl, none-yet (now (c .before .before .args .records)) (now (c .before .before .args .out)))))
 
 loop-again : tie.Need-loop-again Inv-loop μ-loop
-loop-again c = (omega arith, (omega (arith, c .before .before .put-line .ensures .1), (search needs, line-behind (now (c .before .before .before .before .before .before .before .before .before .before .before .before .args .records)) (c .before .before .before .before .before .before .before .before .before .loop .i) (c .before .before .before .before .before .before .before .before .before .loop .inv .1 .1 .1) (c .before .before .put-line .ensures .0))))
+loop-again c =
+    let c9 = c .before .before .before .before .before .before .before .before .before in
+    let c12 = c9 .before .before .before in (
+      omega arith,
+      (
+        omega (arith, c .before .before .put-line .ensures .1),
+        (
+          search needs,
+          line-behind (now (c12 .args .records)) (c9 .loop .i) (c9 .loop .inv .1 .1 .1) (c .before .before .put-line .ensures .0),
+        ),
+      ),
+    )
 
 returns : tie.Need-returns Inv-loop μ-loop
 returns c =
@@ -30,4 +42,8 @@ returns c =
     subst (λ k. Puts (lines (recordsAt k (now (c .before .before .before .before .args .records)))) (now (c .before .before .before .before .args .out)) (c .before .loop .used) (c .before .loop .out)) e (c .before .loop .inv .1 .1 .1)
 
 pub put-lines-spec : {M : Type 1} → statement M
-put-lines-spec = tie.close (tie.spec Inv-loop μ-loop loop-holds (λ c. search needs) (λ c. search needs) (λ c. search needs) (λ c. search needs) (λ c. search needs) (λ c. search needs) (λ c. search needs) (λ c. search needs) (λ c. search needs) (λ c. search needs) (λ c. search needs) (λ c. search needs) (λ c. search needs) (λ c. search needs) (λ c. search needs) (λ c. search needs) (λ c. search needs) (λ c. search needs) (λ c. search needs) loop-again (λ c. search needs) returns)
+put-lines-spec =
+    tie.close (tie.spec Inv-loop μ-loop loop-holds (λ c. search needs) (λ c. search needs) (λ c. search needs) (λ c. search needs) (λ c. search needs)
+    (λ c. search needs) (λ c. search needs) (λ c. search needs) (λ c. search needs) (λ c. search needs) (λ c. search needs) (λ c. search needs)
+    (λ c. search needs) (λ c. search needs) (λ c. search needs) (λ c. search needs) (λ c. search needs) (λ c. search needs)
+    (λ c. search needs) loop-again (λ c. search needs) returns)

@@ -5,7 +5,15 @@ use Rattle.stored.proofs.next.tdh.Statement.{statement}
 use Rattle.stored.proofs.next.tdh.Tie as tie
 
 returns : tie.Need-returns
-returns c = simp (← c .before .before .before .before .is-tdh .ensures, c .before .before .before .if1 .taken, c .before .before .trigger-type .ensures, c .before .trigger-bc .ensures, c .trigger-orbit .ensures)
+returns c =
+    let c4 = c .before .before .before .before in
+    simp (
+      ← c4 .is-tdh .ensures,
+      c .before .before .before .if1 .taken,
+      c .before .before .trigger-type .ensures,
+      c .before .trigger-bc .ensures,
+      c .trigger-orbit .ensures,
+    )
 
 returns-2 : tie.Need-returns-2
 returns-2 c = simp (← c .before .is-tdh .ensures, c .if1 .left)

@@ -8,4 +8,6 @@ returns : tie.Need-returns
 returns c = simp (c .rule-of .ensures)
 
 pub settings-spec : {M : Type 1} → statement M
-settings-spec = tie.close (tie.spec (λ c. search needs) (λ c. search needs) (λ c. search needs) (λ c. search needs) (λ c. search needs) (λ c. search needs) (λ c. search needs) returns)
+settings-spec =
+    tie.close (tie.spec (λ c. search needs) (λ c. search needs) (λ c. search needs) (λ c. search needs) (λ c. search needs) (λ c. search needs)
+    (λ c. search needs) returns)

@@ -36,10 +36,14 @@ grouped l have =
     first came kept (leb (place l P.state) 6) (present (trackerIn l .at .fsm .state) (storedIn l)) ∙ simp (have, and-true, and-assoc)
 
 returns : tie.Need-returns
-returns c = c .bare .ensures ∙ bare-good (now (c .before .before .before .before .args .a)) (c .before .before .before .before .pre) (ne-eqb _ _ (c .before .if1 .taken))
+returns c =
+    let c4 = c .before .before .before .before in
+    c .bare .ensures ∙ bare-good (now (c4 .args .a)) (c4 .pre) (ne-eqb _ _ (c .before .if1 .taken))
 
 returns-2 : tie.Need-returns-2
-returns-2 c = fails _ (c .before .came-good .ensures) (c .if2 .taken) ∙ grouped (now (c .before .before .before .before .before .args .a)) (eq-eqb _ _ (c .before .before .if1 .left))
+returns-2 c =
+    let c5 = c .before .before .before .before .before in
+    fails _ (c .before .came-good .ensures) (c .if2 .taken) ∙ grouped (now (c5 .args .a)) (eq-eqb _ _ (c .before .before .if1 .left))
 
 returns-3 : tie.Need-returns-3
 returns-3 c =

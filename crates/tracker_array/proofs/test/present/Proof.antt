@@ -14,4 +14,6 @@ returns c =
     simp (c .before .fits2 .ensures) (state-fits (place l P.state) (place l P.ihw) (place l P.tdh) (c .before .before .before .before .before .pre .tdh))
 
 pub present-spec : {M : Type 1} → statement M
-present-spec = tie.close (tie.spec (λ c. search needs) (λ c. search needs) (λ c. search needs) (λ c. search needs) (λ c. search needs) (λ c. search needs) returns)
+present-spec =
+    tie.close (tie.spec (λ c. search needs) (λ c. search needs) (λ c. search needs) (λ c. search needs) (λ c. search needs)
+    (λ c. search needs) returns)

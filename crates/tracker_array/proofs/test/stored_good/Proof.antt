@@ -12,7 +12,10 @@ returns-2 : tie.Need-returns-2
 returns-2 c = holds (c .before .before .before .ihw .ensures) (c .before .before .if1 .left) (fails _ (c .before .tdh .ensures) (c .if2 .taken))
 
 returns-3 : tie.Need-returns-3
-returns-3 c = holds (c .before .before .before .before .before .ihw .ensures) (c .before .before .before .before .if1 .left) (holds (c .before .before .before .tdh .ensures) (c .before .before .if2 .left) (fails _ (c .before .internal .ensures) (c .if3 .taken)))
+returns-3 c =
+    let c4 = c .before .before .before .before in
+    let c5 = c4 .before in
+    holds (c5 .ihw .ensures) (c4 .if1 .left) (holds (c .before .before .before .tdh .ensures) (c .before .before .if2 .left) (fails _ (c .before .internal .ensures) (c .if3 .taken)))
 
 returns-4 : tie.Need-returns-4
 returns-4 c =

@@ -1,14 +1,10 @@
 -- `tdh` meets its contract: three numbers beside one flag.
 -- Assumes nothing.
 use denote.Ref.{now}
-use mathlib.Core.Path.{_≡_}
-use mathlib.Core.Bool.{_&&_, _||_}
-use mathlib.Core.List.{List}
-use Prim.Native.Nat.{ℕ}
 use lib.Dec.{ltb, eqb}
 use Rattle.tracker_array.specs.Place as P
 use Rattle.tracker_array.specs.Array.{isOn}
-use Rattle.tracker_array.specs.Read.{place, tdhIn, tdhGood}
+use Rattle.tracker_array.specs.Read.{place}
 use Rattle.tracker_array.proofs.Kept.{three}
 use borrow.Author.Needs.{needs}
 use Rattle.tracker_array.proofs.test.tdh.Statement.{statement}

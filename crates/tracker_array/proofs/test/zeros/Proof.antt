@@ -21,7 +21,11 @@ loop-holds : tie.Need-loop-holds Inv-loop μ-loop
 loop-holds c = (c .pre .0, refl)
 
 loop-again : tie.Need-loop-again Inv-loop μ-loop
-loop-again c = (omega arith, one-more (c .before .before .loop .all) _ _ (now (c .before .before .before .args .a)) (c .before .loop-test .taken) ∙ c .before .before .loop .inv .1)
+loop-again c = (
+  omega arith,
+  one-more (c .before .before .loop .all) _ _ (now (c .before .before .before .args .a))
+      (c .before .loop-test .taken) ∙ c .before .before .loop .inv .1,
+)
 
 returns : tie.Need-returns Inv-loop μ-loop
 returns c = no-more _ _ _ _ (c .loop-test .left) ∙ c .before .loop .inv .1

@@ -8,4 +8,6 @@ returns : tie.Need-returns
 returns c = simp (c .before .before .flag .ensures)
 
 pub internal-spec : {M : Type 1} → statement M
-internal-spec = tie.close (tie.spec (λ c. search needs) (λ c. search needs) (λ c. search needs) (λ c. search needs) (λ c. search needs) (λ c. search needs) (λ c. search needs) returns)
+internal-spec =
+    tie.close (tie.spec (λ c. search needs) (λ c. search needs) (λ c. search needs) (λ c. search needs) (λ c. search needs) (λ c. search needs)
+    (λ c. search needs) returns)

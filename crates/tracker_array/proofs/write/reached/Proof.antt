@@ -8,4 +8,6 @@ returns : tie.Need-returns
 returns c = simp (c .before .before .state-number .ensures, c .flag .ensures)
 
 pub reached-spec : {M : Type 1} → statement M
-reached-spec = tie.close (tie.spec (λ c. search needs) (λ c. search needs) (λ c. search needs) (λ c. search needs) (λ c. search needs) (λ c. search needs) (λ c. search needs) returns)
+reached-spec =
+    tie.close (tie.spec (λ c. search needs) (λ c. search needs) (λ c. search needs) (λ c. search needs) (λ c. search needs) (λ c. search needs)
+    (λ c. search needs) returns)

@@ -9,7 +9,7 @@ returns c =
     let c6 = c .before .before .before .before .before .before in
     let c12 = c6 .before .before .before .before .before .before in
     let c18 = c12 .before .before .before .before .before .before in
-    simp (c .before .before .held3 .ensures, c6 .held2 .ensures, c6 .before .before .before .before .internal .ensures, c12 .before .before .tdh .ensures, c18 .held .ensures)
+    simp (c .before .before .flag-and-number3 .ensures, c6 .flag-and-number2 .ensures, c6 .before .before .before .before .internal .ensures, c12 .before .before .tdh .ensures, c18 .flag-and-number .ensures)
 
 pub stored-spec : {M : Type 1} → statement M
 stored-spec =

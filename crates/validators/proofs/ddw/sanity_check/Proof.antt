@@ -5,7 +5,19 @@ use Rattle.validators.proofs.ddw.sanity_check.Statement.{statement}
 use Rattle.validators.proofs.ddw.sanity_check.Tie as tie
 
 returns : tie.Need-returns
-returns c = simp (c .pick3 .ensures .0, c .before .pick2 .ensures .0, c .before .before .pick .ensures .0, c .before .before .before .index .ensures, c .before .before .before .before .is-reserved-0 .ensures, c .before .before .before .before .before .id .ensures)
+returns c =
+    let c4 = c .before .before .before .before in
+    let c5 = c4 .before in
+    simp (
+      c .pick3 .ensures .0,
+      c .before .pick2 .ensures .0,
+      c .before .before .pick .ensures .0,
+      c .before .before .before .index .ensures,
+      c4 .is-reserved-0 .ensures,
+      c5 .id .ensures,
+    )
 
 pub sanity-check-spec : {M : Type 1} → statement M
-sanity-check-spec = tie.close (tie.spec (λ c. search needs) (λ c. search needs) (λ c. search needs) (λ c. search needs) (λ c. search needs) (λ c. search needs) (λ c. search needs) returns)
+sanity-check-spec =
+    tie.close (tie.spec (λ c. search needs) (λ c. search needs) (λ c. search needs) (λ c. search needs) (λ c. search needs) (λ c. search needs)
+    (λ c. search needs) returns)

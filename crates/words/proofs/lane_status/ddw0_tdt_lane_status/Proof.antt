@@ -2,7 +2,7 @@
 -- Assumes nothing.
 use borrow.Author.Needs.{needs}
 use mathlib.Core.Path.{_≡_}
-use Prim.Native.Nat.{_+_, _-_, _*_, _<_, _^_}
+use Prim.Native.Nat.{_+_, _-_, _*_}
 use borrow.Author.Tests.{lt-ltb, le-ltb}
 use native.Mathlib.Omega.{arith}
 use Rattle.words.proofs.lane_status.ddw0_tdt_lane_status.Statement.{statement}

@@ -8,8 +8,8 @@ use Rattle.tracker_array.specs.Array.{size}
 use Rattle.tracker_array.specs.Place as P
 use Rattle.tracker_array.proofs.Stores.{one-stored, all-stored}
 use borrow.Author.Needs.{needs}
-use Rattle.tracker_array.proofs.write.rest.Statement.{statement}
-use Rattle.tracker_array.proofs.write.rest.Tie as tie
+use Rattle.tracker_array.proofs.write.unused.Statement.{statement}
+use Rattle.tracker_array.proofs.write.unused.Tie as tie
 
 abbrev Inv-loop : tie.InvT-loop
 Inv-loop a₀ i₀ a i = (length a ≡ size) × (sets a i (replicate (size - i) 0) ≡ sets a₀ P.unused (replicate (size - P.unused) 0))
@@ -26,8 +26,8 @@ loop-again c = (simp length-set (c .before .loop .inv .0), one-stored _ _ _ (c .
 returns : tie.Need-returns Inv-loop μ-loop
 returns c = all-stored _ _ _ (c .loop-test .left) ∙ c .before .loop .inv .1
 
-pub rest-spec : {M : Type 1} → statement M
-rest-spec =
+pub unused-spec : {M : Type 1} → statement M
+unused-spec =
     tie.close
     (tie.spec Inv-loop μ-loop loop-holds (λ c. search needs) (λ c. search needs) (λ c. search needs) (λ c. search needs) loop-again
     (λ c. search needs) returns)

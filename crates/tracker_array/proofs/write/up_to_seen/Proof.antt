@@ -1,8 +1,8 @@
 -- `first` meets its contract, part by part.
 -- Assumes nothing.
 use borrow.Author.Needs.{needs}
-use Rattle.tracker_array.proofs.write.first.Statement.{statement}
-use Rattle.tracker_array.proofs.write.first.Tie as tie
+use Rattle.tracker_array.proofs.write.up_to_seen.Statement.{statement}
+use Rattle.tracker_array.proofs.write.up_to_seen.Tie as tie
 
 returns : tie.Need-returns
 returns c =
@@ -11,5 +11,7 @@ returns c =
     let c18 = c12 .before .before .before .before .before .before in
     simp (c .before .before .reached .ensures, c6 .packet .ensures, c6 .before .before .before .before .accepted .ensures, c12 .before .before .settings .ensures, c18 .mark .ensures)
 
-pub first-spec : {M : Type 1} → statement M
-first-spec = tie.close (tie.spec (λ c. search needs) (λ c. search needs) (λ c. search needs) (λ c. search needs) (λ c. search needs) (λ c. search needs) returns)
+pub up-to-seen-spec : {M : Type 1} → statement M
+up-to-seen-spec =
+    tie.close (tie.spec (λ c. search needs) (λ c. search needs) (λ c. search needs) (λ c. search needs) (λ c. search needs)
+    (λ c. search needs) returns)
