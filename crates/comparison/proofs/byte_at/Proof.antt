@@ -30,18 +30,21 @@ shared-slice-read-result c = omega (arith, inside (c .before))
 
 returns : tie.Need-returns
 returns c =
-    ap (λ (n : ℕ). getD (now (c .before .before .before .before .before .before .args .file)) (n + c .before .before .before .before .before .before .args .byte) 0) (place-is (c .before))
-    ∙ sym (byte (now (c .before .before .before .before .before .before .args .file)) (wordPlace (now (c .before .before .before .before .before .before .args .file)) (c .before .before .before .before .before .before .args .word) + c .before .before .before .before .before .before .args .byte))
+    let c6 = c .before .before .before .before .before .before in
+    ap (λ (n : ℕ). getD (now (c6 .args .file)) (n + c6 .args .byte) 0) (place-is (c .before))
+    ∙ sym (byte (now (c6 .args .file)) (wordPlace (now (c6 .args .file)) (c6 .args .word) + c6 .args .byte))
 
 returns-2 : tie.Need-returns-2
 returns-2 c =
-    let e = sym (c .enum-told .given .1) ∙ c .before .before .word-at .ensures .answer ∙ word-found (now (c .before .before .before .before .args .file)) (c .before .before .before .before .args .word) (c .before .before .before .before .pre .0) in
+    let c4 = c .before .before .before .before in
+    let e = sym (c .enum-told .given .1) ∙ c .before .before .word-at .ensures .answer ∙ word-found (now (c4 .args .file)) (c4 .args .word) (c4 .pre .0) in
     let z : _≡_ {A = ℕ} 0 1 = cc in
     absurd (omega arith)
 
 returns-3 : tie.Need-returns-3
 returns-3 c =
-    let e = sym (c .enum-told2 .given .1) ∙ c .before .before .word-at .ensures .answer ∙ word-found (now (c .before .before .before .before .args .file)) (c .before .before .before .before .args .word) (c .before .before .before .before .pre .0) in
+    let c4 = c .before .before .before .before in
+    let e = sym (c .enum-told2 .given .1) ∙ c .before .before .word-at .ensures .answer ∙ word-found (now (c4 .args .file)) (c4 .args .word) (c4 .pre .0) in
     let z : _≡_ {A = ℕ} 0 1 = cc in
     absurd (omega arith)
 

@@ -13,18 +13,22 @@ use Rattle.comparison.proofs.field_at.Tie as tie
 
 returns : tie.Need-returns
 returns c =
-    let e = sym (c .before .before .packet .given .1) ∙ c .before .before .before .before .packet-at .ensures .answer ∙ packet-found (now (c .before .before .before .before .before .before .args .file)) (c .before .before .before .before .before .before .args .packet) (c .before .before .before .before .before .before .pre) in
-    c .field-of .ensures ∙ ap (λ (p : Packet). fieldOf p (c .before .before .before .before .before .before .args .field)) cc
+    let c4 = c .before .before .before .before in
+    let c6 = c4 .before .before in
+    let e = sym (c .before .before .packet .given .1) ∙ c4 .packet-at .ensures .answer ∙ packet-found (now (c6 .args .file)) (c6 .args .packet) (c6 .pre) in
+    c .field-of .ensures ∙ ap (λ (p : Packet). fieldOf p (c6 .args .field)) cc
 
 returns-2 : tie.Need-returns-2
 returns-2 c =
-    let e = sym (c .enum-told .given .1) ∙ c .before .before .packet-at .ensures .answer ∙ packet-found (now (c .before .before .before .before .args .file)) (c .before .before .before .before .args .packet) (c .before .before .before .before .pre) in
+    let c4 = c .before .before .before .before in
+    let e = sym (c .enum-told .given .1) ∙ c .before .before .packet-at .ensures .answer ∙ packet-found (now (c4 .args .file)) (c4 .args .packet) (c4 .pre) in
     let z : _≡_ {A = ℕ} 0 1 = cc in
     absurd (omega arith)
 
 returns-3 : tie.Need-returns-3
 returns-3 c =
-    let e = sym (c .enum-told2 .given .1) ∙ c .before .before .packet-at .ensures .answer ∙ packet-found (now (c .before .before .before .before .args .file)) (c .before .before .before .before .args .packet) (c .before .before .before .before .pre) in
+    let c4 = c .before .before .before .before in
+    let e = sym (c .enum-told2 .given .1) ∙ c .before .before .packet-at .ensures .answer ∙ packet-found (now (c4 .args .file)) (c4 .args .packet) (c4 .pre) in
     let z : _≡_ {A = ℕ} 0 1 = cc in
     absurd (omega arith)
 
