@@ -25,7 +25,8 @@ spelled (suc (suc j)) (suc f) n h w =
     let lesser : suc j - 1 ≡ j = omega arith in
     let least : 10 ^ suc j ≤ n = subst (λ (p : ℕ). 10 ^ p ≤ n) less (w .2 (omega arith)) in
     let rest : digits 10 (suc j) (n / 10) ≡ decimalIn f (n / 10) =
-    spelled (suc j) f (n / 10) (omega arith) (omega arith, omega (arith, w .1), λ _. subst (λ (p : ℕ). 10 ^ p ≤ n / 10) (sym lesser) (omega arith)) in
+    spelled (suc j) f (n / 10) (omega arith)
+    (omega arith, omega (arith, w .1), λ _. subst (λ (p : ℕ). 10 ^ p ≤ n / 10) (sym lesser) (omega arith)) in
     simp (le-ltb n 10 (omega arith), lt-ltb (n % 10) 10 (omega arith), rest)
 
 pub spelled-decimal : (k n : ℕ) → Fewest 10 1 n k → digits 10 k n ≡ decimal n
@@ -40,6 +41,7 @@ few-digits k n w h = at (leb 21 k) refl
     at true e =
         let long = leb-true 21 k e in
         let least : 10 ^ (k - 1) ≤ n = w .2 (omega arith) in
-        let most : 10 ^ 20 ≤ 10 ^ (k - 1) = pow-le-pow-right {n = 10} (omega arith) {i = 20} {j = k - 1} (omega arith) in
+        let most : 10 ^ 20 ≤ 10 ^ (k - 1) = pow-le-pow-right {n = 10} (omega arith) {i = 20} {j = k - 1}
+        (omega arith) in
         absurd (omega arith)
     at false e = let short = leb-false 21 k e in omega arith

@@ -30,25 +30,29 @@ all-copied d s i l e h =
     record { count = h; buffer-is = e ∙ ap (λ (n : ℕ). take n s ++ drop n d) h ∙ ap (λ (x : List ℕ). x ++ drop (length s) d) (take-length s) }
 
 -- A byte is set behind a text.
-pub set-behind : {t d l : List ℕ} {r : ℕ} (byte : ℕ) → Puts t d r l → r < length d → Puts (t ++ (byte ∷ [])) d (r + 1) (set l r byte)
+pub set-behind : {t d l : List ℕ} {r : ℕ} (byte : ℕ) → Puts t d r l → r < length d
+    → Puts (t ++ (byte ∷ [])) d (r + 1) (set l r byte)
 set-behind {t} {d} {l} {r} byte p h =
     let e = p .count in
     let long : length (t ++ (byte ∷ [])) ≡ suc (length t) = length-append t (byte ∷ []) ∙ add-one (length t) in
     record {
       count = omega arith;
       buffer-is =
-          ap (λ (x : List ℕ). set x r byte) (p .buffer-is ∙ ap (λ (x : List ℕ). t ++ x) (drop-cons d (length t) 0 (omega arith)))
+          ap (λ (x : List ℕ). set x r byte) (p .buffer-is
+          ∙ ap (λ (x : List ℕ). t ++ x) (drop-cons d (length t) 0 (omega arith)))
           ∙ set-at t (getD d (length t) 0) (drop (suc (length t)) d) byte r (sym e)
           ∙ sym (append-snoc t byte (drop (suc (length t)) d))
           ∙ ap (λ (n : ℕ). t ++ (byte ∷ []) ++ drop n d) (sym long);
     }
 
 -- Digits that were spelled and copied.
-pub decimal-put : (a : List ℕ) {d l : List ℕ} {k r : ℕ} (n : ℕ) → Fewest 10 1 n k → take k a ≡ digits 10 k n → Puts (take k a) d r l → Puts (decimal n) d r l
+pub decimal-put : (a : List ℕ) {d l : List ℕ} {k r : ℕ} (n : ℕ) → Fewest 10 1 n k → take k a ≡ digits 10 k n
+    → Puts (take k a) d r l → Puts (decimal n) d r l
 decimal-put a {d} {l} {k} {r} n w e p = subst (λ (t : List ℕ). Puts t d r l) (e ∙ spelled-decimal k n w) p
 
 -- A text behind another, in the tail that was lent on.
-pub behind : {t u d l y : List ℕ} {r s : ℕ} → Puts t d r l → Puts u (midOf r (length l - r) l) s y → Puts (t ++ u) d (r + s) (putMid r (length l - r) l y)
+pub behind : {t u d l y : List ℕ} {r s : ℕ} → Puts t d r l → Puts u (midOf r (length l - r) l) s y
+    → Puts (t ++ u) d (r + s) (putMid r (length l - r) l y)
 behind {t} {u} {d} {l} {y} {r} {s} p q =
     record {
       count = omega (arith, p .count, q .count, length-append t u);
@@ -60,7 +64,8 @@ pub none-put : (d : List ℕ) → Puts [] d 0 d
 none-put d = record { count = refl; buffer-is = refl }
 
 -- For who has the room that is asked for: the text was put.
-pub in-room : (asked : ℕ) (t : List ℕ) {d l : List ℕ} {r : ℕ} → asked ≤ length d → Puts (inRoom asked (length d) t) d r l → Puts t d r l
+pub in-room : (asked : ℕ) (t : List ℕ) {d l : List ℕ} {r : ℕ} → asked ≤ length d
+    → Puts (inRoom asked (length d) t) d r l → Puts t d r l
 in-room asked t {d} h p = rw (le-ltb (length d) asked h) at p
 
 -- One number more of a line.
@@ -68,7 +73,8 @@ spaced-snoc : (ns : List ℕ) (n : ℕ) → spaced (ns ++ (n ∷ [])) ≡ spaced
 unfolding spaced
 spaced-snoc [] n = append-nil (space ∷ decimal n)
 spaced-snoc (m ∷ ns) n =
-    ap (λ (l : List ℕ). (space ∷ decimal m) ++ l) (spaced-snoc ns n) ∙ sym (append-assoc (space ∷ decimal m) (spaced ns) (space ∷ decimal n))
+    ap (λ (l : List ℕ). (space ∷ decimal m) ++ l) (spaced-snoc ns n)
+    ∙ sym (append-assoc (space ∷ decimal m) (spaced ns) (space ∷ decimal n))
 
 -- The next number behind those before it.
 pub spaced-behind : (ns : List ℕ) (i : ℕ) {d l y : List ℕ} {r s : ℕ} → i < length ns → Puts (spaced (take i ns)) d r l
@@ -76,7 +82,8 @@ pub spaced-behind : (ns : List ℕ) (i : ℕ) {d l y : List ℕ} {r s : ℕ} →
     → Puts (spaced (take (i + 1) ns)) d (r + s) (putMid r (length l - r) l y)
 spaced-behind ns i {d} {l} {y} {r} {s} h p q =
     subst (λ (t : List ℕ). Puts t d (r + s) (putMid r (length l - r) l y))
-    (sym (spaced-snoc (take i ns) (getD ns i 0)) ∙ ap spaced (sym (take-suc ns i 0 h)) ∙ ap (λ (n : ℕ). spaced (take n ns)) (sym (add-one i)))
+    (sym (spaced-snoc (take i ns) (getD ns i 0)) ∙ ap spaced (sym (take-suc ns i 0 h))
+    ∙ ap (λ (n : ℕ). spaced (take n ns)) (sym (add-one i)))
     (behind p q)
 
 pub none-spaced : (ns d : List ℕ) → Puts (spaced (take 0 ns)) d 0 d

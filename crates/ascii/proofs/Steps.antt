@@ -16,7 +16,8 @@ use Rattle.ascii.proofs.Putting.{none-put}
 
 -- What is to be shown, where at each state it is said what is still to be printed and how many steps are left at most: a step keeps the invariant, prints
 -- the front of what is to be printed and leaves fewer steps; and once all is printed, nothing is to be.
-pub record Moves {State : Type 0} (p : Printer State) (rest : State → List ℕ) (left : State → ℕ) (s : State) (q : Printed State) : Type 0 where
+pub record Moves {State : Type 0} (p : Printer State) (rest : State → List ℕ) (left : State → ℕ) (s : State)
+    (q : Printed State) : Type 0 where
   pub good : p .Good (q .next)
   pub front : q .text ++ rest (q .next) ≡ rest s
   pub less : p .isDone s ≡ false → left (q .next) < left s
@@ -29,7 +30,8 @@ pub record Laws {State : Type 0} (p : Printer State) (rest : State → List ℕ)
 abbrev pub Ends : {State : Type 0} → Printer State → State → Type 0
 Ends p s = (n : ℕ) × ((out : List ℕ) × Steps p s n out)
 
-module _ {State : Type 0} {p : Printer State} {s next : State} {d d′ : List ℕ} {n : ℕ} (f : StepPost p s d next n d′) where
+module _ {State : Type 0} {p : Printer State} {s next : State} {d d′ : List ℕ} {n : ℕ}
+    (f : StepPost p s d next n d′) where
   -- What was printed lies in the buffer.
   pub step-fits : length d′ ≡ length d → n ≤ length d′
   step-fits kept =
@@ -43,14 +45,17 @@ module _ {State : Type 0} {p : Printer State} {s next : State} {d d′ : List �
 module _ {State : Type 0} {p : Printer State} {rest : State → List ℕ} {left : State → ℕ} (laws : Laws p rest left) where
   -- For the code: a step that was made in room enough, and none in too little.
   module _ {s : State} (g : p .Good s) where
-    pub stepped : {next : State} {d d′ : List ℕ} {n : ℕ} → p .most ≤ length d → Prints (p .stepOf s) d next n d′ → StepPost p s d next n d′
+    pub stepped : {next : State} {d d′ : List ℕ} {n : ℕ} → p .most ≤ length d → Prints (p .stepOf s) d next n d′
+        → StepPost p s d next n d′
     stepped {d = d} h q = record { prints = rw (le-ltb (length d) (p .most) h) q; good = rw (q .next-is) (laws .moves s g .good) }
 
     pub no-room : (d : List ℕ) → length d < p .most → StepPost p s d s 0 d
-    no-room d h = record { prints = rw (lt-ltb (length d) (p .most) h) (record { next-is = refl; puts = none-put d }); good = g }
+    no-room d h =
+        record { prints = rw (lt-ltb (length d) (p .most) h) (record { next-is = refl; puts = none-put d }); good = g }
 
   -- With room for a step fewer are left, and what stands at the front of the buffer is the front of what is to be printed.
-  module _ {s next : State} {d d′ : List ℕ} {n : ℕ} (f : StepPost p s d next n d′) (g : p .Good s) (h : p .most ≤ length d) where
+  module _ {s next : State} {d d′ : List ℕ} {n : ℕ} (f : StepPost p s d next n d′) (g : p .Good s)
+      (h : p .most ≤ length d) where
     pub onward : p .isDone s ≡ false → left next < left s
     onward e = rw (in-room f h .next-is) (laws .moves s g .less e)
 

@@ -7,11 +7,13 @@ use Rattle.words.proofs.Unique.{unique}
 use Rattle.ascii.specs.Text.{Puts}
 use Rattle.ascii.specs.Steps.{Printer, StepPost}
 
-pub puts-unique : {text buffer after after′ : List ℕ} {first second : ℕ} → Puts text buffer first after → Puts text buffer second after′
+pub puts-unique : {text buffer after after′ : List ℕ} {first second : ℕ} → Puts text buffer first after
+    → Puts text buffer second after′
     → (first ≡ second) × (after ≡ after′)
 puts-unique p q = (unique (p .count) (q .count), unique (p .buffer-is) (q .buffer-is))
 
-pub step-unique : {State : Type 0} {p : Printer State} {s next next′ : State} {buffer after after′ : List ℕ} {first second : ℕ}
+pub step-unique : {State : Type 0} {p : Printer State} {s next next′ : State} {buffer after after′ : List ℕ}
+    {first second : ℕ}
     → StepPost p s buffer next first after
     → StepPost p s buffer next′ second after′
     → (next ≡ next′) × (first ≡ second) × (after ≡ after′)

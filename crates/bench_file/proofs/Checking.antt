@@ -10,7 +10,8 @@ use borrow.Author.Tests.{ltb-false, eqb-true, eq-eqb, ne-eqb, not-false}
 use lib.Dec.{ltb, eqb}
 use lib.ListN.{length}
 use Rattle.words.specs.Word.{wordBytes}
-use Rattle.bench_file.specs.File.{headerBytes, mostBytes, packets, words, packetOffset, wordOffset, packetPlace, wordPlace, countAt, wordsBefore, misfit, packetRefusal, firstRefusal, checkOf}
+use Rattle.bench_file.specs.File.{headerBytes, mostBytes, packets, words, packetOffset, wordOffset, packetPlace}
+use Rattle.bench_file.specs.File.{wordPlace, countAt, wordsBefore, misfit, packetRefusal, firstRefusal, checkOf}
 
 -- Length and offsets are those of a file.
 pub record Fitting (file : List ℕ) : Type 0 where
@@ -50,16 +51,19 @@ one-more file i = rw add-one
 -- A packet without a refusal leaves it to those after it; the refusal of the first other packet is the one.
 unfolds : (file : List ℕ) (n i : ℕ) → i < n
     → firstRefusal file (n - i) i
-    ≡ cond (eqb (packetRefusal file (packetPlace i)) 0) (firstRefusal file (n - (i + 1)) (i + 1)) (packetRefusal file (packetPlace i))
+    ≡ cond (eqb (packetRefusal file (packetPlace i)) 0) (firstRefusal file (n - (i + 1)) (i + 1))
+    (packetRefusal file (packetPlace i))
 unfolding firstRefusal
 unfolds file n i h =
     let e : n - i ≡ suc (n - (i + 1)) = omega arith in
     rw (e, add-one i)
 
-pub passed : (file : List ℕ) (n i : ℕ) → i < n → packetRefusal file (packetPlace i) ≡ 0 → firstRefusal file (n - i) i ≡ firstRefusal file (n - (i + 1)) (i + 1)
+pub passed : (file : List ℕ) (n i : ℕ) → i < n → packetRefusal file (packetPlace i) ≡ 0
+    → firstRefusal file (n - i) i ≡ firstRefusal file (n - (i + 1)) (i + 1)
 passed file n i h e = unfolds file n i h ∙ simp (eq-eqb (packetRefusal file (packetPlace i)) 0 e)
 
-pub stopped : (file : List ℕ) (n i : ℕ) → i < n → (packetRefusal file (packetPlace i) ≡ 0 → ⊥) → firstRefusal file (n - i) i
+pub stopped : (file : List ℕ) (n i : ℕ) → i < n → (packetRefusal file (packetPlace i) ≡ 0 → ⊥)
+    → firstRefusal file (n - i) i
     ≡ packetRefusal file (packetPlace i)
 stopped file n i h e = unfolds file n i h ∙ simp (ne-eqb (packetRefusal file (packetPlace i)) 0 e)
 
@@ -74,10 +78,12 @@ pub refused-6 : (file : List ℕ) → misfit file ≡ true → checkOf file ≡ 
 unfolding checkOf
 refused-6 file e = simp e
 
-pub refused-7 : (file : List ℕ) → misfit file ≡ false → (wordsBefore file (packets file) ≡ words file → ⊥) → checkOf file ≡ 7
+pub refused-7 : (file : List ℕ) → misfit file ≡ false → (wordsBefore file (packets file) ≡ words file → ⊥)
+    → checkOf file ≡ 7
 unfolding checkOf
 refused-7 file e h = simp (e, ne-eqb _ _ h)
 
-pub packets-checked : (file : List ℕ) → misfit file ≡ false → wordsBefore file (packets file) ≡ words file → checkOf file ≡ firstRefusal file (packets file) 0
+pub packets-checked : (file : List ℕ) → misfit file ≡ false → wordsBefore file (packets file) ≡ words file
+    → checkOf file ≡ firstRefusal file (packets file) 0
 unfolding checkOf
 packets-checked file e h = simp (e, eq-eqb _ _ h)

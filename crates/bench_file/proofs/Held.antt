@@ -38,7 +38,9 @@ B κs = T.the-row (namedLft 1 0 tt κs)
 
 -- a reader's machine value, field by field
 abbrev pub fieldsOf : FileReader → Fields
-fieldsOf d = vcons (sliceVal (d .bytes .ptr) (length (d .bytes .now))) (vcons (vint w64 (d .packet)) (vcons (vint w64 (d .word)) vnil))
+fieldsOf d =
+    vcons (sliceVal (d .bytes .ptr) (length (d .bytes .now)))
+    (vcons (vint w64 (d .packet)) (vcons (vint w64 (d .word)) vnil))
 
 module _ (κ : Lft) (d : FileReader) where
   abbrev pub mach : Val
@@ -62,13 +64,21 @@ module _ (κ : Lft) (d : FileReader) where
     abbrev pub passed : Vals at.signature (κ, tt)
     passed = (sliceVal (d .bytes .ptr) (length (d .bytes .now)) ∷ [], (vint w64 (cursor d) ∷ [], tt))
 
-    pub apart : {M : Type 1} (𝓤 : URA M) (H : Heap 𝓤) (A : Atoms 𝓤) (W : Given 𝓤 H A) (q : Share) (Asked : SProp 𝓤) → cursor d < 2 ^ 64
-        → ent 𝓤 (⋆ 𝓤 H A ((‵ (flft κ q) ⊛ ‵ ftrue) ∷ ‵ (owns (ShrSlice (named 0) κ u8 ∷ usize ∷ []) (d .bytes, (cursor d, tt)) passed) ∷ [])) Asked
-        → ent 𝓤 (⋆ 𝓤 H A ((‵ (flft κ q) ⊛ ‵ ftrue) ∷ ‵ (owns (B (κ, tt) ∷ []) (d, tt) (mach ∷ [], tt)) ∷ [])) (sep 𝓤 Asked (sem 𝓤 H A Own))
+    pub apart : {M : Type 1} (𝓤 : URA M) (H : Heap 𝓤) (A : Atoms 𝓤) (W : Given 𝓤 H A) (q : Share) (Asked : SProp 𝓤)
+        → cursor d < 2 ^ 64
+        → ent 𝓤 (⋆ 𝓤 H A ((‵ (flft κ q) ⊛ ‵ ftrue) ∷ ‵
+        (owns (ShrSlice (named 0) κ u8 ∷ usize ∷ []) (d .bytes, (cursor d, tt)) passed) ∷ [])) Asked
+        → ent 𝓤 (⋆ 𝓤 H A ((‵ (flft κ q) ⊛ ‵ ftrue) ∷ ‵ (owns (B (κ, tt) ∷ []) (d, tt) (mach ∷ [], tt)) ∷ []))
+        (sep 𝓤 Asked (sem 𝓤 H A Own))
     apart 𝓤 H A W q Asked fits asked =
         qed W ((‵ (flft κ q) ⊛ ‵ ftrue) ∷ ‵ (owns (B (κ, tt) ∷ []) (d, tt) (mach ∷ [], tt)) ∷ []) ∵
-        move ! (1 ∷ []) $ fsplit ! $ move ! (1 ∷ []) $ drop ! $ use1 W (‵ Own ⊛ ‵ Own) (LL.copy D (T′.the-copy (namedLft 1 0 tt (κ, tt))) 𝓤 H A W .twice d (mach ∷ [])) $ split ! $
-        use1 W (given (mach ∷ [] ≡ mach ∷ []) (‵ (all-own (D .parts) L fields))) (own-open 𝓤 H A W D L fields mach) $ learn ! (λ _. use1 W (‵ (ownAt (D .parts) L 0 (d .bytes)) ⊛ ‵ (rest (D .parts) L 0 fields)) (own-out 𝓤 H A W (D .parts) L 0 fields) $ split ! $
+        move ! (1 ∷ []) $ fsplit ! $ move ! (1 ∷ []) $ drop ! $
+        use1 W (‵ Own ⊛ ‵ Own) (LL.copy D (T′.the-copy (namedLft 1 0 tt (κ, tt))) 𝓤 H A W .twice d (mach ∷ [])) $
+        split ! $
+        use1 W (given (mach ∷ [] ≡ mach ∷ []) (‵ (all-own (D .parts) L fields))) (own-open 𝓤 H A W D L fields mach) $
+        learn ! (λ _. use1 W (‵ (ownAt (D .parts) L 0 (d .bytes)) ⊛ ‵ (rest (D .parts) L 0 fields))
+        (own-out 𝓤 H A W (D .parts) L 0 fields) $ split ! $
         -- [what bytes owns; what the numbers own; what the struct owns; the token]
-        move ! (1 ∷ []) $ drop ! $ nothing ! $ owned ! usize (Is usize) (uint-makes 𝓤 H A W w64) (cursor d) _ (refl, fits) $ fjoin ! $ move ! (1 ∷ 0 ∷ []) $ fjoin ! $
+        move ! (1 ∷ []) $ drop ! $ nothing ! $ owned ! usize (Is usize) (uint-makes 𝓤 H A W w64) (cursor d) _
+        (refl, fits) $ fjoin ! $ move ! (1 ∷ 0 ∷ []) $ fjoin ! $
         move ! (2 ∷ 0 ∷ []) $ use2 W (raw Asked) asked $ frame ! $ done !)

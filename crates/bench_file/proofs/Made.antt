@@ -55,11 +55,20 @@ module _ (κ : Lft) (s : RefT (List ℕ)) (n m : ℕ) where
 
     -- what it asks, and what is known of its result
     pub goes-new : (W : Given 𝓤 H A) (q : Share)
-        → ent 𝓤 (⋆ 𝓤 H A ((‵ (flft κ q) ⊛ ‵ ftrue) ∷ ‵ (owns (ShrSlice (named 0) κ u8 ∷ usize ∷ usize ∷ []) (s, (n, (m, tt))) at) ∷ [])) (sep 𝓤 (New 𝓤 H A mem run .pre (to-new q)) (sem 𝓤 H A Own))
+        → ent 𝓤 (⋆ 𝓤 H A ((‵ (flft κ q) ⊛ ‵ ftrue) ∷ ‵
+        (owns (ShrSlice (named 0) κ u8 ∷ usize ∷ usize ∷ []) (s, (n, (m, tt))) at) ∷ []))
+        (sep 𝓤 (New 𝓤 H A mem run .pre (to-new q)) (sem 𝓤 H A Own))
     goes-new W q =
-        qed W ((‵ (flft κ q) ⊛ ‵ ftrue) ∷ ‵ (owns (ShrSlice (named 0) κ u8 ∷ usize ∷ usize ∷ []) (s, (n, (m, tt))) at) ∷ []) ∵
-        move ! (1 ∷ []) $ fsplit ! $ use1 W (‵ Own ⊛ ‵ Own) (shr-slice-copy 𝓤 H A W (named 0) κ u8 .twice s (v ∷ [])) $ split ! $
-        move ! (0 ∷ 2 ∷ []) $ fjoin ! $ move ! (2 ∷ 0 ∷ []) $ use2 W (raw (New 𝓤 H A mem run .pre (to-new q))) (qed W ((‵ (flft κ q) ⊛ ‵ ftrue) ∷ ‵ (owns (ShrSlice (named 0) κ u8 ∷ usize ∷ usize ∷ []) (s, (n, (m, tt))) at) ∷ []) ∵ join ! $ frame ! $ done !) $ frame ! $ done !
+        qed W ((‵ (flft κ q) ⊛ ‵ ftrue) ∷ ‵ (owns (ShrSlice (named 0) κ u8 ∷ usize ∷ usize ∷ []) (s, (n, (m, tt))) at)
+        ∷ []) ∵
+        move ! (1 ∷ []) $ fsplit ! $ use1 W (‵ Own ⊛ ‵ Own) (shr-slice-copy 𝓤 H A W (named 0) κ u8 .twice s (v ∷ [])) $
+        split ! $
+        move ! (0 ∷ 2 ∷ []) $ fjoin ! $ move ! (2 ∷ 0 ∷ []) $
+        use2 W (raw (New 𝓤 H A mem run .pre (to-new q)))
+        (qed W ((‵ (flft κ q) ⊛ ‵ ftrue) ∷ ‵ (owns (ShrSlice (named 0) κ u8 ∷ usize ∷ usize ∷ []) (s, (n, (m, tt))) at)
+        ∷ []) ∵ join ! $ frame ! $ done !) $ frame ! $ done !
 
-    pub new-said : (r : FileReader) → ent 𝓤 (ensured 𝓤 H A new.ended (new.clauses 𝓤 H A mem run) (κ, tt) (s, (n, (m, tt))) tt r) (fact 𝓤 (r ≡ readerAt s n m))
-    new-said r = exE 𝓤 _ (λ ws. snd∗ 𝓤 (sem 𝓤 H A (lasts new.ended (κ, tt) (s, (n, (m, tt))) ws)) (fact 𝓤 (r ≡ readerAt s n m)))
+    pub new-said : (r : FileReader) → ent 𝓤 (ensured 𝓤 H A new.ended (new.clauses 𝓤 H A mem run) (κ, tt)
+        (s, (n, (m, tt))) tt r) (fact 𝓤 (r ≡ readerAt s n m))
+    new-said r =
+        exE 𝓤 _ (λ ws. snd∗ 𝓤 (sem 𝓤 H A (lasts new.ended (κ, tt) (s, (n, (m, tt))) ws)) (fact 𝓤 (r ≡ readerAt s n m)))

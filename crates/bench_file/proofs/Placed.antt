@@ -18,9 +18,11 @@ use prog.Routine.{Routine}
 use prog.Wp.{Heap, Calls, Loops, WpFn, Tables}
 use ghost.Atoms.{Atoms, sem}
 use contract.Monad.{Fun, fact}
-use types.Kit.{Given, ‵, raw, _⊛_, ⋆, some as some-of, later, _$_, _∵_, !, qed, by, move, drop, rewrite, use1, use2, split, join, pick, fjoin, suffices, frame, await, done}
+use types.Kit.{Given, ‵, raw, _⊛_, ⋆, some as some-of, later, _$_, _∵_, !, qed, by, move, drop, rewrite, use1, use2}
+use types.Kit.{split, join, pick, fjoin, suffices, frame, await, done}
 use types.Part.{whole, sub, look-in}
-use types.Run.{look, init, forget, stop, fld, from, load, of-opd, and-then, no-more, assigns, land, returns, enter, alloc1, alloc0, params1, pass1, pass0, free1, free0}
+use types.Run.{look, init, forget, stop, fld, from, load, of-opd, and-then, no-more, assigns, land, returns, enter}
+use types.Run.{alloc1, alloc0, params1, pass1, pass0, free1, free0}
 use sound.WpLaws.{FmC, fmOf, WpFn-mono}
 use denote.Laws.{Is, shows}
 use denote.Builtin.{u8, usize}
@@ -49,7 +51,8 @@ use Rattle.bench_file.proofs.Held as held
 use Rattle.bench_file.proofs.Made as made
 
 module _ (name : Name) (moved : FileReader → FileReader) (cursor : FileReader → ℕ) (k place-of : ℕ)
-    (field-is : fieldOf (T′.mir erased) k ≡ some (tyInt w64, place-of)) (value-is : (d : FileReader) → getV (held.fieldsOf d) k ≡ vint w64 (cursor d))
+    (field-is : fieldOf (T′.mir erased) k ≡ some (tyInt w64, place-of))
+    (value-is : (d : FileReader) → getV (held.fieldsOf d) k ≡ vint w64 (cursor d))
     (low : (κ : Lft) (d : FileReader) (vs : List Val) → Is (held.B (κ, tt)) d vs → cursor d < 2 ^ 64) where
   -- the code: two calls, and a field
   abbrev function : Fn
@@ -68,7 +71,8 @@ module _ (name : Name) (moved : FileReader → FileReader) (cursor : FileReader 
             ∷ [];
         body =
             seq (call #reader-at (copy (place 1 []) ∷ copy (place 2 []) ∷ copy (place 3 []) ∷ []) (place 5 []))
-            (seq (call name (copy (place 5 []) ∷ []) (place 4 [])) (seq (assign (place 0 []) (rvOpd (copy (place 4 (field k ∷ []))))) return));
+            (seq (call name (copy (place 5 []) ∷ []) (place 4 []))
+            (seq (assign (place 0 []) (rvOpd (copy (place 4 (field k ∷ []))))) return));
       }
 
   -- the contracts: of the function over readers, and of the one that passes a reader to it
@@ -80,14 +84,17 @@ module _ (name : Name) (moved : FileReader → FileReader) (cursor : FileReader 
       record { ghost = Unit {0}; requires = λ _. emp 𝓤; ensures = λ _ r _. fact 𝓤 (r ≡ cursor (moved (readerAt (a .0) (a .1 .0) (a .1 .1 .0)))) }
 
   abbrev stayed : Stays (plain.ended .signature .params) (plain.ended .kept)
-  stayed = (stay-none-slice (0 ∷ []) tt (by-value (λ _. u8)) yes, (stay-none (λ _. usize) yes, (stay-none (λ _. usize) yes, tt)))
+  stayed =
+      (stay-none-slice (0 ∷ []) tt (by-value (λ _. u8)) yes, (stay-none (λ _. usize) yes, (stay-none (λ _. usize) yes, tt)))
 
   module _ {M : Type 1} (𝓤 : URA M) (H : Heap 𝓤) (A : Atoms 𝓤) (mem : Memory → SProp 𝓤) (run : Routine → Fun 𝓤) where
     -- the contract that the proof cites, beside that of `reader_at`
     abbrev Move : Contract 𝓤
     Move = tripleOf 𝓤 H A over.signature (closing 𝓤 H A over.ended (over-clauses 𝓤))
 
-  module _ {M : Type 1} (𝓤 : URA M) (H : Heap 𝓤) (A : Atoms 𝓤) (W : Given 𝓤 H A) (mem : Memory → SProp 𝓤) (run : Routine → Fun 𝓤) (κ : Lft) (q : Share) (s : RefT (List ℕ)) (n m : ℕ) (ok : n < 2 ^ 64) (ok2 : m < 2 ^ 64) where
+  module _ {M : Type 1} (𝓤 : URA M) (H : Heap 𝓤) (A : Atoms 𝓤) (W : Given 𝓤 H A) (mem : Memory → SProp 𝓤)
+      (run : Routine → Fun 𝓤) (κ : Lft) (q : Share) (s : RefT (List ℕ)) (n m : ℕ) (ok : n < 2 ^ 64)
+      (ok2 : m < 2 ^ 64) where
     abbrev v : Val
     v = made.v κ s n m
 
@@ -108,69 +115,98 @@ module _ (name : Name) (moved : FileReader → FileReader) (cursor : FileReader 
     to-move r u = (((κ, tt), (q, tt), tt, (r, tt), (u ∷ [], tt)), tt)
 
     goes-move : (r : FileReader) (u : Val)
-        → ent 𝓤 (⋆ 𝓤 H A (‵ (held.B (κ, tt) .own r (u ∷ [])) ∷ (‵ (flft κ q) ⊛ ‵ ftrue) ∷ [])) (Move 𝓤 H A mem run .pre (to-move r u))
+        → ent 𝓤 (⋆ 𝓤 H A (‵ (held.B (κ, tt) .own r (u ∷ [])) ∷ (‵ (flft κ q) ⊛ ‵ ftrue) ∷ []))
+        (Move 𝓤 H A mem run .pre (to-move r u))
     goes-move r u =
-        qed W (‵ (held.B (κ, tt) .own r (u ∷ [])) ∷ (‵ (flft κ q) ⊛ ‵ ftrue) ∷ []) ∵ nothing ! $ move ! (1 ∷ 0 ∷ []) $ fjoin ! $ move !
+        qed W (‵ (held.B (κ, tt) .own r (u ∷ [])) ∷ (‵ (flft κ q) ⊛ ‵ ftrue) ∷ []) ∵ nothing ! $ move ! (1 ∷ 0 ∷ []) $
+        fjoin ! $ move !
         (1 ∷ 0 ∷ []) $ join ! $ frame ! $ done !
 
-    move-said : (r t : FileReader) → ent 𝓤 (ensured 𝓤 H A over.ended (over-clauses 𝓤) (κ, tt) (r, tt) tt t) (fact 𝓤 (t ≡ moved r))
+    move-said : (r t : FileReader) → ent 𝓤 (ensured 𝓤 H A over.ended (over-clauses 𝓤) (κ, tt) (r, tt) tt t)
+        (fact 𝓤 (t ≡ moved r))
     move-said r t = exE 𝓤 _ (λ ws. snd∗ 𝓤 (sem 𝓤 H A (lasts over.ended (κ, tt) (r, tt) ws)) (fact 𝓤 (t ≡ moved r)))
 
     exits : (t : FileReader) (u : Val) → cursor t ≡ cursor (moved (readerAt s n m)) → cursor t < 2 ^ 64
-        → ent 𝓤 (⋆ 𝓤 H A (‵ (held.B (κ, tt) .own t (u ∷ [])) ∷ (‵ (flft κ q) ⊛ ‵ ftrue) ∷ ‵ Own ∷ [])) (Post (vint w64 (cursor t)))
+        → ent 𝓤 (⋆ 𝓤 H A (‵ (held.B (κ, tt) .own t (u ∷ [])) ∷ (‵ (flft κ q) ⊛ ‵ ftrue) ∷ ‵ Own ∷ []))
+        (Post (vint w64 (cursor t)))
     exits t u e fits =
         qed W (‵ (held.B (κ, tt) .own t (u ∷ [])) ∷ (‵ (flft κ q) ⊛ ‵ ftrue) ∷ ‵ Own ∷ []) ∵ drop ! $
-        suffices ! _ (ends-at 𝓤 H A plain.ended stayed (plain-clauses 𝓤) W (((κ, tt), (q, tt), tt, (s, (n, (m, tt))), at), tt) (vint w64 (cursor t)) (cursor t) (tt, (tt, (tt, tt))) (tt, (tt, (tt, tt)))) $ says ! e $
-        frame ! $ nothing ! $ owned ! usize (Is usize) (uint-makes 𝓤 H A W w64) m _ (refl, ok2) $ fjoin ! $ owned ! usize (Is usize) (uint-makes 𝓤 H A W w64) n _ (refl, ok) $ fjoin ! $ move ! (1 ∷ 0 ∷ []) $ fjoin ! $ frame ! $
+        suffices ! _ (ends-at 𝓤 H A plain.ended stayed (plain-clauses 𝓤) W
+        (((κ, tt), (q, tt), tt, (s, (n, (m, tt))), at), tt) (vint w64 (cursor t)) (cursor t) (tt, (tt, (tt, tt)))
+        (tt, (tt, (tt, tt)))) $ says ! e $
+        frame ! $ nothing ! $ owned ! usize (Is usize) (uint-makes 𝓤 H A W w64) m _ (refl, ok2) $ fjoin ! $
+        owned ! usize (Is usize) (uint-makes 𝓤 H A W w64) n _ (refl, ok) $ fjoin ! $ move ! (1 ∷ 0 ∷ []) $ fjoin ! $
+        frame ! $
         owned ! usize (Is usize) (uint-makes 𝓤 H A W w64) (cursor t) _ (refl, fits) $ done !
 
-    module _ (C : Calls 𝓤 H) (Λ : Loops 𝓤 H) (fm : FmC 𝓤 H (W .laws) C) (known-new : Triple 𝓤 (C #reader-at) (made.New 𝓤 H A mem run)) (known-move : Triple 𝓤 (C name) (Move 𝓤 H A mem run)) where
+    module _ (C : Calls 𝓤 H) (Λ : Loops 𝓤 H) (fm : FmC 𝓤 H (W .laws) C)
+        (known-new : Triple 𝓤 (C #reader-at) (made.New 𝓤 H A mem run))
+        (known-move : Triple 𝓤 (C name) (Move 𝓤 H A mem run)) where
       walk : Is (ShrSlice (named 0) κ u8) s (v ∷ [])
-          → ent 𝓤 (onEntry 𝓤 H A plain.signature (κ, tt) (q, tt) (s, (n, (m, tt))) at) (WpFn 𝓤 H C Λ function (v ∷ vint w64 n ∷ vint w64 m ∷ []) Post)
+          → ent 𝓤 (onEntry 𝓤 H A plain.signature (κ, tt) (q, tt) (s, (n, (m, tt))) at)
+          (WpFn 𝓤 H C Λ function (v ∷ vint w64 n ∷ vint w64 m ∷ []) Post)
       walk p =
-          qed W (raw (onEntry 𝓤 H A plain.signature (κ, tt) (q, tt) (s, (n, (m, tt))) at) ∷ []) ∵ enter ! C Λ function (v ∷ vint w64 n ∷ vint w64 m ∷ []) _ $
-          alloc1 ! (λ l₀. alloc1 ! (λ l₁. alloc1 ! (λ l₂. alloc1 ! (λ l₃. alloc1 ! (λ l₄. alloc1 ! (λ l₅. alloc0 ! $ params1 ! $ pass1 ! (init ! 8 refl (shr-slice-lawful 𝓤 H A W (named 0) κ u8 .typed s (v ∷ []) p .0)) $ pass1 ! (init ! 6 refl (
-            tt,
-            record {
-              fits =
-                  ok;
-            },
-          )) $ pass1 ! (init ! 4 refl (tt, record { fits = ok2 })) $ pass0 ! $
-          move ! (12 ∷ []) $ use1 W (raw (made.New 𝓤 H A mem run .pre to-new) ⊛ ‵ Own) (made.goes-new κ s n m 𝓤 H A mem run W q) $ split ! $
-          calls-at ! fm (made.New 𝓤 H A mem run) known-new to-new (and-then ! (load ! (from ! (stop !)) (look ! 10 refl)) (and-then ! (load ! (from ! (stop !)) (look ! 8 refl)) (and-then ! (load ! (from ! (stop !)) (look ! 6 refl)) (no-more !)))) (λ u.
-          use1 W (later (some-of (λ (r : FileReader). ((‵ (flft κ q) ⊛ ‵ ftrue) ⊛ ‵ (held.B (κ, tt) .own r (u ∷ []))) ⊛ raw (ensured 𝓤 H A new.ended (new.clauses 𝓤 H A mem run) (κ, tt) (s, (n, (m, tt))) tt r)))) (id⊢ 𝓤 _) $ await ! tt $ pick ! (λ r.
-          split ! $ move ! (1 ∷ []) $ use1 W (raw (fact 𝓤 (r ≡ readerAt s n m))) (made.new-said κ s n m 𝓤 H A mem run r) $ heard ! (r ≡ readerAt s n m) (λ e. split ! $ move ! (1 ∷ []) $
+          qed W (raw (onEntry 𝓤 H A plain.signature (κ, tt) (q, tt) (s, (n, (m, tt))) at) ∷ []) ∵ enter ! C Λ function
+          (v ∷ vint w64 n ∷ vint w64 m ∷ []) _ $
+          alloc1 ! (λ l₀. alloc1 ! (λ l₁. alloc1 !
+          (λ l₂. alloc1 ! (λ l₃. alloc1 ! (λ l₄. alloc1 ! (λ l₅. alloc0 ! $ params1 ! $
+          pass1 ! (init ! 8 refl (shr-slice-lawful 𝓤 H A W (named 0) κ u8 .typed s (v ∷ []) p .0)) $
+          pass1 ! (init ! 6 refl (tt, record { fits = ok })) $ pass1 ! (init ! 4 refl (tt, record { fits = ok2 })) $ pass0 ! $
+          move ! (12 ∷ []) $ use1 W (raw (made.New 𝓤 H A mem run .pre to-new) ⊛ ‵ Own)
+          (made.goes-new κ s n m 𝓤 H A mem run W q) $ split ! $
+          calls-at ! fm (made.New 𝓤 H A mem run) known-new to-new
+          (and-then ! (load ! (from ! (stop !)) (look ! 10 refl))
+          (and-then ! (load ! (from ! (stop !)) (look ! 8 refl))
+          (and-then ! (load ! (from ! (stop !)) (look ! 6 refl)) (no-more !)))) (λ u.
+          use1 W (later (some-of (λ (r : FileReader).
+          ((‵ (flft κ q) ⊛ ‵ ftrue) ⊛ ‵ (held.B (κ, tt) .own r (u ∷ []))) ⊛ raw
+          (ensured 𝓤 H A new.ended (new.clauses 𝓤 H A mem run) (κ, tt) (s, (n, (m, tt))) tt r)))) (id⊢ 𝓤 _) $
+          await ! tt $ pick ! (λ r.
+          split ! $ move ! (1 ∷ []) $ use1 W (raw (fact 𝓤 (r ≡ readerAt s n m)))
+          (made.new-said κ s n m 𝓤 H A mem run r) $ heard ! (r ≡ readerAt s n m) (λ e. split ! $ move ! (1 ∷ []) $
           -- [what the struct owns; the token; what s owns; room for _5; …; room for _4; …; _3; …; _2; …; _1; …; room for _0; …]
           peeks ! (held.B (κ, tt)) (Is (held.B (κ, tt))) (shows 𝓤 H A (held.B (κ, tt))) r (u ∷ []) (λ is.
-          land ! (from ! (stop !)) (init ! 3 refl (LL.lawful (T.the-type (made.αᵉ κ)) (T′.the-laws (made.αᵉ κ)) 𝓤 H A W .typed r _ is .0)) $
+          land ! (from ! (stop !)) (init ! 3 refl
+          (LL.lawful (T.the-type (made.αᵉ κ)) (T′.the-laws (made.αᵉ κ)) 𝓤 H A W .typed r _ is .0)) $
           use2 W (raw (Move 𝓤 H A mem run .pre (to-move r u))) (goes-move r u) $
-          calls-at ! fm (Move 𝓤 H A mem run) known-move (to-move r u) (and-then ! (load ! (from ! (stop !)) (look ! 2 refl)) (no-more !)) (λ u′.
-          use1 W (later (some-of (λ (t : FileReader). ((‵ (flft κ q) ⊛ ‵ ftrue) ⊛ ‵ (held.B (κ, tt) .own t (u′ ∷ []))) ⊛ raw (ensured 𝓤 H A over.ended (over-clauses 𝓤) (κ, tt) (r, tt) tt t)))) (id⊢ 𝓤 _) $ await ! tt $ pick ! (λ t.
-          split ! $ move ! (1 ∷ []) $ use1 W (raw (fact 𝓤 (t ≡ moved r))) (move-said r t) $ heard ! (t ≡ moved r) (λ e′. split ! $ move ! (1 ∷ []) $
+          calls-at ! fm (Move 𝓤 H A mem run) known-move (to-move r u)
+          (and-then ! (load ! (from ! (stop !)) (look ! 2 refl)) (no-more !)) (λ u′.
+          use1 W (later (some-of (λ (t : FileReader).
+          ((‵ (flft κ q) ⊛ ‵ ftrue) ⊛ ‵ (held.B (κ, tt) .own t (u′ ∷ []))) ⊛ raw
+          (ensured 𝓤 H A over.ended (over-clauses 𝓤) (κ, tt) (r, tt) tt t)))) (id⊢ 𝓤 _) $ await ! tt $ pick ! (λ t.
+          split ! $ move ! (1 ∷ []) $ use1 W (raw (fact 𝓤 (t ≡ moved r))) (move-said r t) $
+          heard ! (t ≡ moved r) (λ e′. split ! $ move ! (1 ∷ []) $
           -- [what the moved struct owns; the token; what s owns; _5; …; room for _4; …; _3; …; _2; …; _1; …; room for _0; …]
           peeks ! (held.B (κ, tt)) (Is (held.B (κ, tt))) (shows 𝓤 H A (held.B (κ, tt))) t (u′ ∷ []) (λ is′.
-          land ! (from ! (stop !)) (init ! 5 refl (LL.lawful (T.the-type (made.αᵉ κ)) (T′.the-laws (made.αᵉ κ)) 𝓤 H A W .typed t _ is′ .0)) $
-          rewrite ! 5 (λ (z : Val). ‵ (fat fullShare (T′.mir erased) l₄ 0 z)) (ap only (LL.tells (T.the-type (made.αᵉ κ)) (T′.the-laws (made.αᵉ κ)) t _ is′)) refl $
-          assigns ! (of-opd ! (load ! (from ! (fld ! field-is (stop !))) (look-in ! 5 (sub ! k field-is (whole !))))) (from ! (stop !)) (init ! 13 refl (subst (λ (z : Val). Holds (hasTy (tyInt w64) z) × WT z) (sym (value-is t)) (
-            tt,
-            record {
-              fits =
-                  low κ t _ is′;
-            },
-          ))) $
+          land ! (from ! (stop !)) (init ! 5 refl
+          (LL.lawful (T.the-type (made.αᵉ κ)) (T′.the-laws (made.αᵉ κ)) 𝓤 H A W .typed t _ is′ .0)) $
+          rewrite ! 5 (λ (z : Val). ‵ (fat fullShare (T′.mir erased) l₄ 0 z))
+          (ap only (LL.tells (T.the-type (made.αᵉ κ)) (T′.the-laws (made.αᵉ κ)) t _ is′)) refl $
+          assigns ! (of-opd ! (load ! (from ! (fld ! field-is (stop !))) (look-in ! 5 (sub ! k field-is (whole !)))))
+          (from ! (stop !)) (init ! 13 refl (subst (λ (z : Val). Holds (hasTy (tyInt w64) z) × WT z) (sym (value-is t))
+          (tt, record { fits = low κ t _ is′ }))) $
           rewrite ! 13 (λ (z : Val). ‵ (fat fullShare (tyInt w64) l₀ 0 z)) (value-is t) refl $
-          returns ! (look ! 13 refl) $ forget ! 3 refl $ forget ! 5 refl $ forget ! 7 refl $ forget ! 9 refl $ forget ! 11 refl $ forget ! 13 refl $ move ! (13 ∷ 14 ∷ []) $ free1 ! $ move ! (11 ∷ 12 ∷ []) $ free1 ! $ move ! (9 ∷ 10 ∷ []) $ free1 ! $ move ! (7 ∷ 8 ∷ []) $ free1 ! $ move ! (5 ∷ 6 ∷ []) $ free1 ! $ move ! (3 ∷ 4 ∷ []) $ free1 ! $ free0 ! $
+          returns ! (look ! 13 refl) $ forget ! 3 refl $ forget ! 5 refl $ forget ! 7 refl $ forget ! 9 refl $
+          forget ! 11 refl $ forget ! 13 refl $ move ! (13 ∷ 14 ∷ []) $ free1 ! $ move ! (11 ∷ 12 ∷ []) $ free1 ! $
+          move ! (9 ∷ 10 ∷ []) $ free1 ! $ move ! (7 ∷ 8 ∷ []) $ free1 ! $ move ! (5 ∷ 6 ∷ []) $ free1 ! $
+          move ! (3 ∷ 4 ∷ []) $ free1 ! $ free0 ! $
           by ! (exits t u′ (ap cursor (e′ ∙ ap moved e)) (low κ t _ is′))))))))))))))))
 
-  module _ {M : Type 1} (𝓤 : URA M) (H : Heap 𝓤) (A : Atoms 𝓤) (W : Given 𝓤 H A) (mem : Memory → SProp 𝓤) (run : Routine → Fun 𝓤) where
-    walks : (C : Calls 𝓤 H) (Λ : Loops 𝓤 H) → FmC 𝓤 H (W .laws) C → Triple 𝓤 (C #reader-at) (made.New 𝓤 H A mem run) → Triple 𝓤 (C name) (Move 𝓤 H A mem run)
+  module _ {M : Type 1} (𝓤 : URA M) (H : Heap 𝓤) (A : Atoms 𝓤) (W : Given 𝓤 H A) (mem : Memory → SProp 𝓤)
+      (run : Routine → Fun 𝓤) where
+    walks : (C : Calls 𝓤 H) (Λ : Loops 𝓤 H) → FmC 𝓤 H (W .laws) C → Triple 𝓤 (C #reader-at) (made.New 𝓤 H A mem run)
+        → Triple 𝓤 (C name) (Move 𝓤 H A mem run)
         → Walks 𝓤 H A plain.ended stayed (WpFn 𝓤 H C Λ function) (plain-clauses 𝓤)
     walks C Λ fm known-new known-move =
-        walked 𝓤 H A plain.ended stayed (plain-clauses 𝓤) (WpFn 𝓤 H C Λ function) (λ κs. (slice-vals, (uint-vals w64, (uint-vals w64, tt)))) (λ κs.
+        walked 𝓤 H A plain.ended stayed (plain-clauses 𝓤) (WpFn 𝓤 H C Λ function)
+        (λ κs. (slice-vals, (uint-vals w64, (uint-vals w64, tt)))) (λ κs.
         (shr-slice-tells (named 0) (κs .0) u8, (uint-tells w64, (uint-tells w64, tt))))
-        (λ κs qs bounds a g are. via 𝓤 _ (fst∗ 𝓤 _ (emp 𝓤)) (walk 𝓤 H A W mem run (κs .0) (qs .0) (a .0) (a .1 .0) (a .1 .1 .0) (are .1 .0 .1) (are .1 .1 .0 .1) C Λ fm known-new known-move (are .0)))
+        (λ κs qs bounds a g are. via 𝓤 _ (fst∗ 𝓤 _ (emp 𝓤))
+        (walk 𝓤 H A W mem run (κs .0) (qs .0) (a .0) (a .1 .0) (a .1 .1 .0) (are .1 .0 .1)
+        (are .1 .1 .0 .1) C Λ fm known-new known-move (are .0)))
 
-  pub meets : {M : Type 1} (𝓤 : URA M) (H : Heap 𝓤) (A : Atoms 𝓤) (W : Given 𝓤 H A) (mem : Memory → SProp 𝓤) (run : Routine → Fun 𝓤) (𝓣 : Tables 𝓤 H)
+  pub meets : {M : Type 1} (𝓤 : URA M) (H : Heap 𝓤) (A : Atoms 𝓤) (W : Given 𝓤 H A) (mem : Memory → SProp 𝓤)
+      (run : Routine → Fun 𝓤) (𝓣 : Tables 𝓤 H)
       → Triple 𝓤 (𝓣 .C #reader-at) (made.New 𝓤 H A mem run) → Triple 𝓤 (𝓣 .C name) (Move 𝓤 H A mem run)
       → Meets 𝓤 H A plain.signature (WpFn 𝓤 H (𝓣 .C) (𝓣 .Λ) function) (closing 𝓤 H A plain.ended (plain-clauses 𝓤))
   meets 𝓤 H A W mem run 𝓣 known-new known-move =

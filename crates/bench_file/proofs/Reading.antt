@@ -17,9 +17,11 @@ use Rattle.words.specs.Word.{wordBytes}
 use Rattle.packet.specs.declared.Packet.{Packet}
 use Rattle.packet.specs.Packet.{inRange, maxWords}
 use Rattle.bench_file.specs.declared.Found.the-variants as F
-use Rattle.bench_file.specs.File.{packets, words, packetPlace, packetAt, countAt, wordPlace, bytesAt, wordsBefore, misfit, packetRefusal, firstRefusal, checkOf}
+use Rattle.bench_file.specs.File.{packets, words, packetPlace, packetAt, countAt, wordPlace, bytesAt, wordsBefore}
+use Rattle.bench_file.specs.File.{misfit, packetRefusal, firstRefusal, checkOf}
 use Rattle.bench_file.specs.Items.{Item, packet, word, wordItems, packetItems, items, itemsFrom}
-use Rattle.bench_file.specs.Reader.{readerAt, hasPacket, hasWord, wordFound, pastPacket, pastWord, nextFound, Gives, end, packet-first, then-word, Sound, Place}
+use Rattle.bench_file.specs.Reader.{readerAt, hasPacket, hasWord, wordFound, pastPacket, pastWord, nextFound}
+use Rattle.bench_file.specs.Reader.{Gives, end, packet-first, then-word, Sound, Place}
 use Rattle.bench_file.proofs.Checking.{Fitting, fitting, one-more}
 use Rattle.bench_file.proofs.Finding.{packet-in, packet-past, packet-found, packet-end, past-packet, word-in, word-found, past-word}
 
@@ -57,7 +59,8 @@ both-none (suc n) m e =
     absurd (omega arith)
 
 -- With no first refusal no packet has one.
-none-first : (file : List ℕ) (n i : ℕ) → firstRefusal file n i ≡ 0 → (j : ℕ) → i ≤ j → j < i + n → packetRefusal file (packetPlace j) ≡ 0
+none-first : (file : List ℕ) (n i : ℕ) → firstRefusal file n i ≡ 0 → (j : ℕ) → i ≤ j → j < i + n
+    → packetRefusal file (packetPlace j) ≡ 0
 unfolding firstRefusal
 none-first file zero i e j h k = absurd (omega arith)
 none-first file (suc n) i e j h k =
@@ -77,7 +80,8 @@ unfolding checkOf
 sound file e =
     let sums = taken (eqb (wordsBefore file (packets file)) (words file)) _ 6 (no-misfit (misfit file) _ e .1) in
     let f = fits file e in
-    let none : (i : ℕ) → i < packets file → packetRefusal file (packetPlace i) ≡ 0 = λ i h. none-first file (packets file) 0 (sums .1) i (omega arith) (omega arith) in
+    let none : (i : ℕ) → i < packets file → packetRefusal file (packetPlace i) ≡ 0 =
+    λ i h. none-first file (packets file) 0 (sums .1) i (omega arith) (omega arith) in
     record {
       short = f .short;
       whole = f .whole;
@@ -85,7 +89,9 @@ sound file e =
       words-few = omega arith;
       sum = eqb-true _ _ (sums .0);
       in-range = λ i h. taken (inRange (packetAt file i)) _ 4 (none i h) .0;
-      count = λ i h. leb-true _ _ (taken (leb (countAt file i) maxWords) 0 2 (taken (inRange (packetAt file i)) _ 4 (none i h) .1) .0);
+      count =
+          λ i h. leb-true _ _ (taken (leb (countAt file i) maxWords) 0 2
+          (taken (inRange (packetAt file i)) _ 4 (none i h) .1) .0);
       inside = λ n h. omega arith;
     }
 
@@ -124,7 +130,8 @@ module _ {file : List ℕ} (s : Sound file) where
       let here = p .here in
       omega arith
 
-  at-packet : (i n : ℕ) → Place file i n 0 → i < packets file → PacketGiven file i n 0 (packetAt file i) (countAt file i)
+  at-packet : (i n : ℕ) → Place file i n 0 → i < packets file
+      → PacketGiven file i n 0 (packetAt file i) (countAt file i)
   unfolding wordItems packetItems
   at-packet i n p h =
       let e : packets file - i ≡ suc (packets file - (i + 1)) = omega arith in
@@ -159,10 +166,12 @@ module _ {file : List ℕ} (s : Sound file) where
       rw e
 
   -- What the reader's answer means for what is to come: a packet, a word, the end.
-  pub packet-given : {i n left count : ℕ} {p : Packet} → Place file i n left → nextFound file i n left ≡ F.Packet p count → PacketGiven file i n left p count
+  pub packet-given : {i n left count : ℕ} {p : Packet} → Place file i n left
+      → nextFound file i n left ≡ F.Packet p count → PacketGiven file i n left p count
   packet-given {i} {n} {left = zero} {count} {p} place e =
       ⊎-elim
-      (λ (h : i ≡ packets file). let z : _≡_ {A = ℕ} 0 1 = cc (packet-end file i (packet-past file i (omega arith))) in absurd (omega arith))
+      (λ (h : i ≡ packets file). let z : _≡_ {A = ℕ} 0 1 = cc (packet-end file i (packet-past file i (omega arith))) in
+      absurd (omega arith))
       (λ (h : i < packets file).
       let given = next-packet i n h in
       let same : packetAt file i ≡ p = cc in
@@ -175,10 +184,12 @@ module _ {file : List ℕ} (s : Sound file) where
       let z : _≡_ {A = ℕ} 0 1 = cc in
       absurd (omega arith)
 
-  pub word-given : {i n left at : ℕ} → Place file i n left → nextFound file i n left ≡ F.Word at → WordGiven file i n left at
+  pub word-given : {i n left at : ℕ} → Place file i n left
+      → nextFound file i n left ≡ F.Word at → WordGiven file i n left at
   word-given {i} {n} {left = zero} place e =
       ⊎-elim
-      (λ (h : i ≡ packets file). let z : _≡_ {A = ℕ} 0 1 = cc (packet-end file i (packet-past file i (omega arith))) in absurd (omega arith))
+      (λ (h : i ≡ packets file). let z : _≡_ {A = ℕ} 0 1 = cc (packet-end file i (packet-past file i (omega arith))) in
+      absurd (omega arith))
       (λ (h : i < packets file). let z : _≡_ {A = ℕ} 0 1 = cc (next-packet i n h) in absurd (omega arith))
       (eq-or-lt-of-le (place .within))
   word-given {i} {n} {left = suc left} {at} place e =
@@ -222,17 +233,20 @@ module _ (bytes : RefT (List ℕ)) (s : Sound (now bytes)) where
       let here = word-here s n (omega arith) in
       let e : n + suc left ≡ suc n + left = omega arith in
       let more : Gives (readerAt bytes i (pastWord file n)) left (wordItems file left (suc n) ++ rest) =
-      rw (past-word file n here, add-one n) (words-given left i (suc n) rest (omega arith) (subst (λ (m : ℕ). Gives (readerAt bytes i m) 0 rest) e g)) in
+      rw (past-word file n here, add-one n) (words-given left i (suc n) rest (omega arith)
+      (subst (λ (m : ℕ). Gives (readerAt bytes i m) 0 rest) e g)) in
       then-word (word-found file n here) more
 
-  packets-given : (k i n : ℕ) → i + k ≡ packets file → n ≡ wordsBefore file i → Gives (readerAt bytes i n) 0 (packetItems file k i n)
+  packets-given : (k i n : ℕ) → i + k ≡ packets file → n ≡ wordsBefore file i
+      → Gives (readerAt bytes i n) 0 (packetItems file k i n)
   unfolding packetItems wordsBefore
   packets-given zero i n h e = end (packet-end file i (packet-past file i (omega arith)))
   packets-given (suc k) i n h e =
       let here = packet-here s i (omega arith) in
       let most = words-at-most s (suc i) (omega arith) in
       let later = packets-given k (suc i) (n + countAt file i) (omega arith) (omega arith) in
-      let more : Gives (readerAt bytes (pastPacket file i) n) (countAt file i) (wordItems file (countAt file i) n ++ packetItems file k (suc i) (n + countAt file i)) =
+      let more : Gives (readerAt bytes (pastPacket file i) n) (countAt file i)
+      (wordItems file (countAt file i) n ++ packetItems file k (suc i) (n + countAt file i)) =
       rw (past-packet file i here, add-one i) (words-given (countAt file i) (suc i) n _ (omega arith) later) in
       packet-first (packet-found file i here) more
 

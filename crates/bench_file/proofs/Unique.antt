@@ -15,13 +15,16 @@ use Rattle.bench_file.specs.Reader.{afterPacket, Gives, end, packet-firs
 pub check-unique : (file : List ℕ) {first second : ℕ} → first ≡ checkOf file → second ≡ checkOf file → first ≡ second
 check-unique file = unique
 
-pub next-packet-unique : {file : List ℕ} {i : ℕ} {first second : Found} → NextPacketPost file i first → NextPacketPost file i second → first ≡ second
+pub next-packet-unique : {file : List ℕ} {i : ℕ} {first second : Found} → NextPacketPost file i first
+    → NextPacketPost file i second → first ≡ second
 next-packet-unique a b = unique (a .answer) (b .answer)
 
-pub next-word-unique : {file : List ℕ} {n : ℕ} {first second : Found} → NextWordPost file n first → NextWordPost file n second → first ≡ second
+pub next-word-unique : {file : List ℕ} {n : ℕ} {first second : Found} → NextWordPost file n first
+    → NextWordPost file n second → first ≡ second
 next-word-unique a b = unique (a .answer) (b .answer)
 
-pub next-unique : {file : List ℕ} {i n left : ℕ} {first second : Found} → NextPost file i n left first → NextPost file i n left second → first ≡ second
+pub next-unique : {file : List ℕ} {i n left : ℕ} {first second : Found} → NextPost file i n left first
+    → NextPost file i n left second → first ≡ second
 next-unique a b = unique (a .answer) (b .answer)
 
 pub gives-unique : {r : FileReader} {left : ℕ} {xs ys : List Item} → Gives r left xs → Gives r left ys → xs ≡ ys

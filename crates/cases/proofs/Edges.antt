@@ -22,7 +22,8 @@ two (a ∷ []) d e h t clear = absurd (omega arith)
 two (a ∷ b ∷ c ∷ ws) d e h t clear = absurd (omega arith)
 
 three : Holds (from-three 3 true)
-three (a ∷ b ∷ c ∷ []) d e (ha, (hb, (hc, _))) t clear = ap isThree (marker-settles (a ∷ b ∷ c ∷ d ∷ []) (three-data ha hb hc t) S.Three)
+three (a ∷ b ∷ c ∷ []) d e (ha, (hb, (hc, _))) t clear =
+    ap isThree (marker-settles (a ∷ b ∷ c ∷ d ∷ []) (three-data ha hb hc t) S.Three)
 three [] d e h t clear = absurd (omega arith)
 three (a ∷ []) d e h t clear = absurd (omega arith)
 three (a ∷ b ∷ []) d e h t clear = absurd (omega arith)

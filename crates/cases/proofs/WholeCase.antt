@@ -36,7 +36,8 @@ begun = packetCall (startOf settings) packet .tracker
 
 pub whole-case : flat (payloadCall begun fiveWords mostRecords .records)
     ≡ 84 ∷ 1072 ∷ 1 ∷ 1 ∷ 104 ∷ 440 ∷ 3564 ∷ 198 ∷ 104 ∷ 1045 ∷ 3564 ∷ 198 ∷ []
-unfolding begun settings packet wholeCase number wordOf bits flat given packetCall recordsOf takenOf wordCall wordsFrom payloadCall
+unfolding begun settings packet wholeCase number wordOf bits flat given packetCall
+    recordsOf takenOf wordCall wordsFrom payloadCall
 whole-case = refl
 
 -- The same as word calls: what each tells. Refusal, kind, guessed, records, frame with start and end, lanes.
@@ -50,10 +51,14 @@ told (o ∷ os) = numbersOf (wordAnswer begun o .told) ∷ told os
 
 pub whole-answers : told (payloadCalls begun fiveWords mostRecords)
     ≡ tells 1 0 0 0 0 1 ∷ tells 3 0 1 0 0 0 ∷ tells 6 1 0 0 0 0 ∷ tells 8 0 2 74 94 0 ∷ tells 4 2 1 0 0 0 ∷ []
-unfolding begun settings packet wholeCase tells told number wordOf bits given packetCall recordsOf takenOf wordCall wordCalls payloadCalls ones
+unfolding begun settings packet wholeCase tells told number wordOf bits given packetCall
+    recordsOf takenOf wordCall wordCalls payloadCalls ones
 whole-answers = refl
 
 -- The same as benchcheck prints it.
-pub whole-text : text wholeCase ≡ ascii "pos code first second\n84 1072 1 1\n104 440 3564 198\n104 1045 3564 198\nrecords 3\n"
-unfolding wholeCase number wordOf bits given packetCall recordsOf takenOf wordCall numberAt wordsBefore misfit firstRefusal checkOf wordItems packetItems items decimalIn decimal line lines heading recordsLine refusedLine recordsFrom fileRecords text
+pub whole-text : text wholeCase ≡ ascii
+    "pos code first second\n84 1072 1 1\n104 440 3564 198\n104 1045 3564 198\nrecords 3\n"
+unfolding wholeCase number wordOf bits given packetCall
+    recordsOf takenOf wordCall numberAt wordsBefore misfit firstRefusal checkOf wordItems packetItems items decimalIn
+    decimal line lines heading recordsLine refusedLine recordsFrom fileRecords text
 whole-text = refl

@@ -52,12 +52,16 @@ interval-in kind past back period t w =
     (choice (In kind) (countsOrbits (t .settings .rule) && ranBack difference previous (triggerBc w)) back period)
 
 -- A data word and a CDW have the same rows. Those on a lane have 1074 where there is no such lane.
-data-in : (guessed : Bool) (t : Tracker) (w : Word) → Each (λ row. In K.DataWord (row .code)) (rowsAs K.DataWord guessed t w)
+data-in : (guessed : Bool) (t : Tracker) (w : Word)
+    → Each (λ row. In K.DataWord (row .code)) (rowsAs K.DataWord guessed t w)
 data-in guessed t w =
-    let none : Bool → ℕ → Bool = λ inner lane. isMissing (laneAnswer inner lane (t .stored .ihw .lanes)) in
-    (refl, (refl, (refl, (choice (In K.DataWord) (none true (innerLane (idOf w))) refl refl, (choice (In K.DataWord) (none false (outerLane (idOf w))) refl refl, (refl, tt))))))
+    let lane : Bool → ℕ → Bool = λ inner n. isMissing (laneAnswer inner n (t .stored .ihw .lanes)) in
+    let inner = choice (In K.DataWord) (lane true (innerLane (idOf w))) refl refl in
+    let outer = choice (In K.DataWord) (lane false (outerLane (idOf w))) refl refl in
+    (refl, (refl, (refl, (inner, (outer, (refl, tt))))))
 
-pub rows-in : (kind : ItsPayloadWord) (guessed : Bool) (t : Tracker) (w : Word) → Each (λ row. In kind (row .code)) (rowsAs kind guessed t w)
+pub rows-in : (kind : ItsPayloadWord) (guessed : Bool) (t : Tracker) (w : Word)
+    → Each (λ row. In kind (row .code)) (rowsAs kind guessed t w)
 rows-in K.Ihw guessed t w = (refl, (refl, (refl, (refl, tt))))
 rows-in K.IhwContinuation guessed t w = (refl, tt)
 rows-in K.Tdh guessed t w =
@@ -91,4 +95,5 @@ module _ (t : Tracker) (w : Word) where
 
   -- No record has code 990.
   pub none-990 : Each (λ r. r .code ≡ 990 → ⊥) (recordsOf t w)
-  none-990 = each-so (λ r. not-in (takenAs t w .word) 990 (none-is-990 (takenAs t w .word))) (recordsOf t w) codes-by-kind
+  none-990 =
+      each-so (λ r. not-in (takenAs t w .word) 990 (none-is-990 (takenAs t w .word))) (recordsOf t w) codes-by-kind

@@ -17,14 +17,16 @@ use Rattle.cdp_running.specs.Word.{rowsAs}
 neither : {A : Type 0} {n : ℕ} → (n ≡ 5 → A) → (n ≡ 6 → A) → (n ≡ 5) ⊎ (n ≡ 6) → A
 neither f g e = ⊎-elim f g e
 
-pub data-rows : (kind : ItsPayloadWord) (guessed : Bool) (t : Tracker) (w : Word) → (tagOf the-type kind ≡ 5) ⊎ (tagOf the-type kind ≡ 6)
+pub data-rows : (kind : ItsPayloadWord) (guessed : Bool) (t : Tracker) (w : Word) → (tagOf the-type kind ≡ 5)
+    ⊎ (tagOf the-type kind ≡ 6)
     → rowsAs kind guessed t w ≡ dataRows (t .settings) (t .at .seen) (t .stored .ihw .lanes) (t .stored .cdw) guessed w
 data-rows K.DataWord guessed t w e = refl
 data-rows K.Cdw guessed t w e = refl
 data-rows K.Ihw guessed t w e = neither (λ q. absurd (omega (arith, q))) (λ q. absurd (omega (arith, q))) e
 data-rows K.IhwContinuation guessed t w e = neither (λ q. absurd (omega (arith, q))) (λ q. absurd (omega (arith, q))) e
 data-rows K.Tdh guessed t w e = neither (λ q. absurd (omega (arith, q))) (λ q. absurd (omega (arith, q))) e
-data-rows K.TdhAfterPacketDone guessed t w e = neither (λ q. absurd (omega (arith, q))) (λ q. absurd (omega (arith, q))) e
+data-rows K.TdhAfterPacketDone guessed t w e =
+    neither (λ q. absurd (omega (arith, q))) (λ q. absurd (omega (arith, q))) e
 data-rows K.TdhContinuation guessed t w e = neither (λ q. absurd (omega (arith, q))) (λ q. absurd (omega (arith, q))) e
 data-rows K.Tdt guessed t w e = neither (λ q. absurd (omega (arith, q))) (λ q. absurd (omega (arith, q))) e
 data-rows K.Ddw0 guessed t w e = neither (λ q. absurd (omega (arith, q))) (λ q. absurd (omega (arith, q))) e

@@ -51,7 +51,9 @@ module _ (t : Tracker) (w : Word) where
   -- Positions are at most 2^62 + 64 + 16 * 4095.
   pub positions : Good t → t .at .count < maxWords → Each (λ r. r .position ≤ mostPosition) (recordsOf t w)
   unfolding recordsOf
-  positions g h = given-each (λ r. r .position ≤ mostPosition) (positionNow t) (rowsOf t (takenAs t w) w) (all (rowsOf t (takenAs t w) w))
+  positions g h =
+      given-each (λ r. r .position ≤ mostPosition) (positionNow t) (rowsOf t (takenAs t w) w)
+      (all (rowsOf t (takenAs t w) w))
     where
       all : (rows : List Row) → Each (λ row. row .on ≡ true → positionNow t ≤ mostPosition) rows
       all [] = tt

@@ -34,7 +34,8 @@ absent-zero false n e = refl
 begun : Settings → ℕ → Tracker
 begun s n =
     record {
-      settings = record { running = s .running; frames = s .frames; periodic = s .periodic; period = n; rule = s .rule };
+      settings =
+          record { running = s .running; frames = s .frames; periodic = s .periodic; period = n; rule = s .rule };
       accepted = false;
       packet = noPacket;
       at = record { fsm = start; count = 0; seen = false };
@@ -82,7 +83,8 @@ good-accept t p g e =
       fresh = λ f. clash f;
     }
 
-pub good-next : (t : Tracker) (w : Word) → Good t → t .accepted ≡ true → t .at .count < maxWords → Good (nextTracker t (takenAs t w) w)
+pub good-next : (t : Tracker) (w : Word) → Good t → t .accepted ≡ true → t .at .count < maxWords
+    → Good (nextTracker t (takenAs t w) w)
 good-next t w g have h =
     let a = takenAs t w in
     let c = comes (t .at .fsm .state) w in
@@ -91,8 +93,12 @@ good-next t w g have h =
       packet = g .packet;
       count = omega arith;
       stored = good-stored (a .word) (t .at .seen) w (t .stored) (g .stored);
-      frame = good-frame (t .settings .frames) (a .word) w (positionNow t) (t .frame) (position-most (t .packet) (t .at .count) (g .packet) h) (g .frame);
-      ihw-present = λ e. kept-ihw (a .word) w (t .stored .ihw) (pastIhw (t .at .fsm .state)) (g .ihw-present) (c .ihw e);
-      tdh-present = λ e. kept-tdh (a .word) w (t .stored .tdh) (pastTdh (t .at .fsm .state)) (g .tdh-present) (c .tdh e);
+      frame =
+          good-frame (t .settings .frames) (a .word) w (positionNow t) (t .frame)
+          (position-most (t .packet) (t .at .count) (g .packet) h) (g .frame);
+      ihw-present =
+          λ e. kept-ihw (a .word) w (t .stored .ihw) (pastIhw (t .at .fsm .state)) (g .ihw-present) (c .ihw e);
+      tdh-present =
+          λ e. kept-tdh (a .word) w (t .stored .tdh) (pastTdh (t .at .fsm .state)) (g .tdh-present) (c .tdh e);
       fresh = λ e. clash (sym have ∙ e);
     }

@@ -67,10 +67,12 @@ module _ (t : Tracker) (w : Word) where
   unfolding recordsOf
   cables =
       let a = takenAs t w in
-      given-each (λ r. Cable (idOf w) (r .code) (r .first)) (positionNow t) (rowsOf t a w) (by-kind (a .word) (a .guessed))
+      given-each (λ r. Cable (idOf w) (r .code) (r .first)) (positionNow t) (rowsOf t a w)
+      (by-kind (a .word) (a .guessed))
 
   -- With running checks, in DATA_ and c_DATA_: the records of a word whose id is of a barrel and no data id, whatever came before.
-  module _ (state : amongData (t .at .fsm .state) ≡ true) (running : t .settings .running ≡ true) (other : isDataId (idOf w) ≡ false) where
+  module _ (state : amongData (t .at .fsm .state) ≡ true) (running : t .settings .running ≡ true)
+      (other : isDataId (idOf w) ≡ false) where
     abbrev say : ℕ → ℕ → ℕ → Record
     say code first second = recordAt (positionNow t) (when true code first second)
 
@@ -81,15 +83,19 @@ module _ (t : Tracker) (w : Word) where
         let no-cdw : eqb (idOf w) 0xF8 ≡ false = ne-eqb (idOf w) 0xF8 (λ q. omega arith) in
         in-data (t .at .fsm .state) w state ∙ simp (no-tdt, no-cdw, other)
 
-    pub inner-1074 : inner w ≡ true → recordsOf t w ≡ say 991 (idOf w) 0 ∷ say 70 (idOf w) 0 ∷ say 1074 (innerLane (idOf w)) (t .stored .ihw .lanes) ∷ []
+    pub inner-1074 : inner w ≡ true → recordsOf t w ≡ say 991 (idOf w) 0 ∷ say 70 (idOf w) 0 ∷ say 1074
+        (innerLane (idOf w)) (t .stored .ihw .lanes) ∷ []
     unfolding recordsOf
     inner-1074 barrel =
         rw (guessed (eqb-true (idOf w / 32) 1 barrel) (omega arith))
-        (inner-missing (t .settings) running (t .at .seen) (t .stored .ihw .lanes) (t .stored .cdw) w other (positionNow t) barrel)
+        (inner-missing (t .settings) running (t .at .seen) (t .stored .ihw .lanes) (t .stored .cdw) w other
+        (positionNow t) barrel)
 
     pub outer-1074 : outer w ≡ true
-        → recordsOf t w ≡ say 991 (idOf w) 0 ∷ say 70 (idOf w) 0 ∷ say 1074 (outerLane (idOf w)) (t .stored .ihw .lanes) ∷ say 1073 7 0 ∷ []
+        → recordsOf t w ≡ say 991 (idOf w) 0 ∷ say 70 (idOf w) 0 ∷ say 1074 (outerLane (idOf w))
+        (t .stored .ihw .lanes) ∷ say 1073 7 0 ∷ []
     unfolding recordsOf
     outer-1074 barrel =
         rw (guessed (eqb-true (idOf w / 32) 2 barrel) (omega arith))
-        (outer-missing (t .settings) running (t .at .seen) (t .stored .ihw .lanes) (t .stored .cdw) w other (positionNow t) barrel)
+        (outer-missing (t .settings) running (t .at .seen) (t .stored .ihw .lanes) (t .stored .cdw) w other
+        (positionNow t) barrel)

@@ -24,7 +24,8 @@ pub record Admitted (t : Tracker) (bytes : List ℕ) (places : ℕ) : Type 0 whe
   pub low : t .at .count < maxWords
   pub fits : exceed (recordsOf t (wordOf bytes)) places ≡ false
 
-pub admitted-taken : (t : Tracker) (bytes : List ℕ) (places : ℕ) → Admitted t bytes places → wordCall t bytes places ≡ takenOf t (wordOf bytes)
+pub admitted-taken : (t : Tracker) (bytes : List ℕ) (places : ℕ) → Admitted t bytes places
+    → wordCall t bytes places ≡ takenOf t (wordOf bytes)
 unfolding wordCall
 admitted-taken t bytes places a = simp (eq-eqb _ _ (a .ten), a .accepted, lt-leb _ _ (a .low), a .fits)
 
@@ -32,11 +33,13 @@ module _ (t : Tracker) (bytes : List ℕ) (places : ℕ) {x : TakenWord} (e : wo
   pub taken-admitted : Admitted t bytes places
   unfolding wordCall
   taken-admitted =
-      let a = at (eqb (length bytes) 10) (t .accepted) (leb maxWords (t .at .count)) (exceed (recordsOf t (wordOf bytes)) places) e in
+      let a = at (eqb (length bytes) 10) (t .accepted) (leb maxWords (t .at .count))
+      (exceed (recordsOf t (wordOf bytes)) places) e in
       record { ten = eqb-true _ _ (a .0); accepted = a .1 .0; low = leb-false _ _ (a .1 .1 .0); fits = a .1 .1 .1 }
     where
       at : (a b c d : Bool)
-          → cond a (cond b (cond c (refused 3) (cond d (refused 4) (takenOf t (wordOf bytes)))) (refused 2)) (refused 1) ≡ taken x
+          → cond a (cond b (cond c (refused 3) (cond d (refused 4) (takenOf t (wordOf bytes)))) (refused 2))
+          (refused 1) ≡ taken x
           → (a ≡ true) × ((b ≡ true) × ((c ≡ false) × (d ≡ false)))
       at true true false false q = (refl, (refl, (refl, refl)))
       at true true false true q = (cc, (cc, (cc, cc)))

@@ -26,7 +26,8 @@ use Rattle.cdp_running.specs.Word.{rowsAs, rowsOf, takenAs, positionNow,
 use Rattle.cdp_running.proofs.Codes.{among, codesAs, not-in, rows-in}
 
 -- Both codes are of an IHW alone.
-of-ihw : (kind : ItsPayloadWord) → (among 1121 (codesAs kind) ≡ isInitial kind) × (among 1122 (codesAs kind) ≡ isInitial kind)
+of-ihw : (kind : ItsPayloadWord) → (among 1121 (codesAs kind) ≡ isInitial kind)
+    × (among 1122 (codesAs kind) ≡ isInitial kind)
 of-ihw K.Ihw = (refl, refl)
 of-ihw K.IhwContinuation = (refl, refl)
 of-ihw K.Tdh = (refl, refl)
@@ -75,7 +76,8 @@ module _ (t : Tracker) (w : Word) where
   by-kind K.Ddw0 guessed e = elsewhere K.Ddw0 guessed refl
 
   -- 1121 from the start state only, 1122 from the three-way state only.
-  pub only-there : Each (λ r. (r .code ≡ 1121 → t .at .fsm .state ≡ S.Ihw) × (r .code ≡ 1122 → t .at .fsm .state ≡ S.Three)) (recordsOf t w)
+  pub only-there : Each (λ r. (r .code ≡ 1121 → t .at .fsm .state ≡ S.Ihw)
+      × (r .code ≡ 1122 → t .at .fsm .state ≡ S.Three)) (recordsOf t w)
   unfolding recordsOf
   only-there =
       let a = takenAs t w in
@@ -84,7 +86,8 @@ module _ (t : Tracker) (w : Word) where
   -- No word gives both.
   pub never-both : Each (λ r. Each (λ s. r .code ≡ 1121 → s .code ≡ 1122 → ⊥) (recordsOf t w)) (recordsOf t w)
   never-both =
-      each-so (λ r p. each-so (λ s q e f. true≢false (sym (ap isThree (sym (p .0 e) ∙ q .1 f)))) (recordsOf t w) only-there)
+      each-so (λ r p. each-so (λ s q e f. true≢false (sym (ap isThree (sym (p .0 e) ∙ q .1 f))))
+      (recordsOf t w) only-there)
       (recordsOf t w) only-there
 
   -- A clean IHW, with stop 0, gives no record on page 0 in the start state, and none on any later page in the three-way state.

@@ -41,8 +41,10 @@ all-after : {state : State} {a : Advanced} → pastIhw state ≡ true → pastTd
 all-after i h = record { data-word = λ _. i; after-packet-done = λ _. h; continuation = λ _. h }
 
 pub read : (state : State) (w : Word) → Reads state (advanceOf state w)
-read S.Ihw w = record { data-word = λ e. absurd (true≢false (sym e)); after-packet-done = λ e. cc; continuation = λ e. cc }
-read S.Tdh w = record { data-word = λ e. absurd (true≢false (sym e)); after-packet-done = λ e. cc; continuation = λ e. cc }
+read S.Ihw w =
+    record { data-word = λ e. absurd (true≢false (sym e)); after-packet-done = λ e. cc; continuation = λ e. cc }
+read S.Tdh w =
+    record { data-word = λ e. absurd (true≢false (sym e)); after-packet-done = λ e. cc; continuation = λ e. cc }
 read S.Data w = all-after refl refl
 read S.CData w = all-after refl refl
 read S.Three w = all-after refl refl

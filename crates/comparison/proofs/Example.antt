@@ -14,7 +14,8 @@ use Rattle.comparison.specs.Text.{lineOf, lines, lastLine, refusedLine, 
 -- A file of one packet: its words, its BC in two bytes, and their bytes.
 abbrev pub oneFile : ℕ → ℕ → ℕ → List ℕ → List ℕ
 oneFile count low high bytes =
-    (0x01 ∷ 0x00 ∷ 0x00 ∷ 0x00 ∷ count ∷ 0x00 ∷ 0x00 ∷ 0x00 ∷ 0x10 ∷ 0x00 ∷ 0x00 ∷ 0x00 ∷ 0x28 ∷ 0x00 ∷ 0x00 ∷ 0x00 ∷ [])
+    (0x01 ∷ 0x00 ∷ 0x00 ∷ 0x00 ∷ count ∷ 0x00 ∷ 0x00 ∷ 0x00 ∷ 0x10 ∷ 0x00 ∷ 0x00 ∷ 0x00 ∷ 0x28 ∷ 0x00 ∷ 0x00 ∷ 0x00
+    ∷ [])
     ++ ((0x00 ∷ 0x00 ∷ 0x00 ∷ 0x00 ∷ 0x00 ∷ 0x00 ∷ 0x00 ∷ 0x00 ∷ 0x07 ∷ 0x00 ∷ 0x00 ∷ 0x00 ∷ 0x10 ∷ 0x00 ∷ 0x00 ∷ 0x00
     ∷ low ∷ high ∷ 0x00 ∷ 0x00 ∷ 0x00 ∷ 0x02 ∷ count ∷ 0x00 ∷ []) ++ bytes)
 
@@ -25,9 +26,11 @@ pub other : List ℕ
 other = oneFile 2 0x01 0x00 (replicate 9 0x00 ++ (0xE8 ∷ replicate 10 0x00))
 
 pub other-text : text one other ≡ ascii "words 1 2\ncount 0 1 2\nfield 0 3 3564 1\nbyte 0 0 9 224 232\ndifferences 4\n"
-unfolding one other number numberAt wordsBefore misfit firstRefusal checkOf decimalIn decimal spaced refusalOf each places differing differences lineOf lines lastLine refusedLine text
+unfolding one other number numberAt wordsBefore misfit firstRefusal checkOf decimalIn decimal spaced refusalOf each
+    places differing differences lineOf lines lastLine refusedLine text
 other-text = refl
 
 pub refused-text : text other [] ≡ ascii "refused 6 1\n"
-unfolding one other number numberAt wordsBefore misfit firstRefusal checkOf decimalIn decimal spaced refusalOf each places differing differences lineOf lines lastLine refusedLine text
+unfolding one other number numberAt wordsBefore misfit firstRefusal checkOf decimalIn decimal spaced refusalOf each
+    places differing differences lineOf lines lastLine refusedLine text
 refused-text = refl

@@ -18,7 +18,8 @@ use Rattle.comparison.specs.declared.Place.{Place}
 use Rattle.comparison.specs.declared.Stage.{Stage}
 use Rattle.comparison.specs.declared.Stage.the-variants as S
 use Rattle.comparison.specs.declared.Listing.{Listing}
-use Rattle.comparison.specs.Compare.{common, commonWords, packetsPlace, wordsPlace, countPlace, fieldPlace, bytePlace, each, eachOne, wordPlaces, packetPlaces, places, differs, differing}
+use Rattle.comparison.specs.Compare.{common, commonWords, packetsPlace, wordsPlace, countPlace, fieldPlace}
+use Rattle.comparison.specs.Compare.{bytePlace, each, eachOne, wordPlaces, packetPlaces, places, differs, differing}
 use Rattle.comparison.specs.Text.{lineOf, lines, lastLine, refusedLine}
 use Rattle.comparison.specs.Listing.{standing, tell, stageStep, stepOf, isDone, mostLeft, Both, AtCount, AtPacket, AtField, AtByte, GoodAt, Good, printer}
 use Rattle.comparison.proofs.Rows.{each-more, each-none, row}
@@ -42,11 +43,14 @@ module _ (a b : List ℕ) where
   abbrev allPackets : List Place
   allPackets = each (common a b) 0 (packetPlaces a b)
 
-  packets-more : (i : ℕ) → i < common a b → packetsFrom i ≡ eachOne 7 0 (fieldPlace a b i) ++ (rowOf i ++ packetsFrom (i + 1))
+  packets-more : (i : ℕ) → i < common a b → packetsFrom i ≡ eachOne 7 0
+      (fieldPlace a b i) ++ (rowOf i ++ packetsFrom (i + 1))
   packets-more i h =
       each-more (common a b) i (packetPlaces a b) h
-      ∙ append-assoc (eachOne 7 0 (fieldPlace a b i)) (each (commonWords a b i) 0 (wordPlaces a b i)) (packetsFrom (i + 1))
-      ∙ ap (λ (ps : List Place). eachOne 7 0 (fieldPlace a b i) ++ (ps ++ packetsFrom (i + 1))) (row (bytePlace a b i) (commonWords a b i))
+      ∙ append-assoc (eachOne 7 0 (fieldPlace a b i)) (each (commonWords a b i) 0 (wordPlaces a b i))
+      (packetsFrom (i + 1))
+      ∙ ap (λ (ps : List Place). eachOne 7 0 (fieldPlace a b i) ++ (ps ++ packetsFrom (i + 1)))
+      (row (bytePlace a b i) (commonWords a b i))
 
   packets-none : (i : ℕ) → common a b ≤ i → packetsFrom i ≡ []
   packets-none i h = each-none (common a b) i (packetPlaces a b) h
@@ -56,8 +60,11 @@ module _ (a b : List ℕ) where
   comesAt l S.Words = wordsPlace a b ∷ (eachOne (common a b) 0 (countPlace a b) ++ allPackets)
   comesAt l S.Counts = eachOne (common a b - l .packet) (l .packet) (countPlace a b) ++ allPackets
   comesAt l S.Packet = packetsFrom (l .packet)
-  comesAt l S.Fields = eachOne (7 - l .part) (l .part) (fieldPlace a b (l .packet)) ++ (rowOf (l .packet) ++ packetsFrom (l .packet + 1))
-  comesAt l S.Bytes = eachOne (10 * commonWords a b (l .packet) - l .part) (l .part) (rowPlace (l .packet)) ++ packetsFrom (l .packet + 1)
+  comesAt l S.Fields =
+      eachOne (7 - l .part) (l .part) (fieldPlace a b (l .packet)) ++ (rowOf (l .packet) ++ packetsFrom (l .packet + 1))
+  comesAt l S.Bytes =
+      eachOne (10 * commonWords a b (l .packet) - l .part) (l .part) (rowPlace (l .packet)) ++ packetsFrom
+      (l .packet + 1)
   comesAt l S.Last = []
   comesAt l (S.Refused n file) = []
   comesAt l S.Done = []
@@ -88,7 +95,8 @@ module _ (a b : List ℕ) where
   Moved = Moves (printer a b) restOf (mostLeft a b)
 
   -- A place of which the line is printed, and one of which nothing is.
-  told-line : (place : Place) (ps : List Place) (count : ℕ) → differs place ≡ true → lineOf place ++ listed ps (count + 1) ≡ listed (place ∷ ps) count
+  told-line : (place : Place) (ps : List Place) (count : ℕ) → differs place ≡ true
+      → lineOf place ++ listed ps (count + 1) ≡ listed (place ∷ ps) count
   unfolding differing lines
   told-line place ps count e =
       let n : count + 1 + length (differing ps) ≡ count + suc (length (differing ps)) = omega arith in
@@ -96,7 +104,8 @@ module _ (a b : List ℕ) where
       (ap (λ (m : ℕ). lineOf place ++ (lines (differing ps) ++ lastLine m)) n
       ∙ sym (append-assoc (lineOf place) (lines (differing ps)) (lastLine (count + suc (length (differing ps))))))
 
-  told-none : (place : Place) (ps : List Place) (count : ℕ) → differs place ≡ false → listed ps count ≡ listed (place ∷ ps) count
+  told-none : (place : Place) (ps : List Place) (count : ℕ) → differs place ≡ false
+      → listed ps count ≡ listed (place ∷ ps) count
   unfolding differing lines
   told-none place ps count e = rw e
 
@@ -117,7 +126,8 @@ module _ (a b : List ℕ) where
         (λ t.
         record {
           good = record { at = o .good (l .count + 1); low = omega (arith, o .less (l .count + 1)) };
-          front = ap (λ (x : List ℕ). lineOf place ++ x) (o .rest (l .count + 1)) ∙ told-line place ps (l .count) t ∙ sym e;
+          front =
+              ap (λ (x : List ℕ). lineOf place ++ x) (o .rest (l .count + 1)) ∙ told-line place ps (l .count) t ∙ sym e;
           less = λ _. o .less (l .count + 1);
         })
         (λ t.
@@ -127,7 +137,8 @@ module _ (a b : List ℕ) where
           less = λ _. o .less (l .count);
         })
 
-    moved : (ps : List Place) → Low l → Onward ps → restOf l ≡ listed ps (l .count) → Moved l (nothing (next (l .count)))
+    moved : (ps : List Place) → Low l → Onward ps → restOf l ≡ listed ps (l .count)
+        → Moved l (nothing (next (l .count)))
     moved ps low o e =
         record {
           good = record { at = o .good (l .count); low = omega (arith, o .less (l .count)) };
@@ -138,7 +149,8 @@ module _ (a b : List ℕ) where
   abbrev atStage : Stage → Listing → Listing
   atStage s l = standing s (l .packet) (l .part) (l .first) (l .second) (l .count)
 
-  counts : (l : Listing) → AtCount a b l → Low (atStage S.Counts l) → Moved (atStage S.Counts l) (stageStep a b l S.Counts)
+  counts : (l : Listing) → AtCount a b l → Low (atStage S.Counts l)
+      → Moved (atStage S.Counts l) (stageStep a b l S.Counts)
   unfolding restOf mostLeft wordsBefore
   counts l g low =
       by-test (Moved (atStage S.Counts l)) (ltb (l .packet) (common a b)) _ _
@@ -161,16 +173,19 @@ module _ (a b : List ℕ) where
       start-packet : {count : ℕ} → Both a b → AtPacket a b (standing S.Packet 0 0 0 0 count)
       start-packet both = record { both = both; here = omega arith; one = refl; two = refl }
 
-  packet : (l : Listing) → AtPacket a b l → Low (atStage S.Packet l) → Moved (atStage S.Packet l) (stageStep a b l S.Packet)
+  packet : (l : Listing) → AtPacket a b l → Low (atStage S.Packet l)
+      → Moved (atStage S.Packet l) (stageStep a b l S.Packet)
   unfolding restOf mostLeft
   packet l g low =
       by-test (Moved (atStage S.Packet l)) (ltb (l .packet) (common a b)) _ _
       (λ t.
       let h = ltb-true _ _ t in
-      moved (atStage S.Packet l) S.Fields (l .packet) 0 (l .first) (l .second) (eachOne 7 0 (fieldPlace a b (l .packet)) ++ (rowOf (l .packet) ++ packetsFrom (l .packet + 1))) low
+      moved (atStage S.Packet l) S.Fields (l .packet) 0 (l .first) (l .second)
+      (eachOne 7 0 (fieldPlace a b (l .packet)) ++ (rowOf (l .packet) ++ packetsFrom (l .packet + 1))) low
       (record {
         rest = λ count. refl;
-        good = λ count. record { at = record { both = g .both; here = g .here; one = g .one; two = g .two }; within = h; part = omega arith };
+        good =
+            λ count. record { at = record { both = g .both; here = g .here; one = g .one; two = g .two }; within = h; part = omega arith };
         less = λ count. omega arith;
       })
       (rw (packets-more (l .packet) h)))
@@ -180,14 +195,17 @@ module _ (a b : List ℕ) where
       (record { rest = λ count. refl; good = λ count. tt; less = λ count. omega arith })
       (rw (packets-none (l .packet) h)))
 
-  fieldMoves : (l : Listing) → AtField a b l → Low (atStage S.Fields l) → Moved (atStage S.Fields l) (stageStep a b l S.Fields)
+  fieldMoves : (l : Listing) → AtField a b l → Low (atStage S.Fields l)
+      → Moved (atStage S.Fields l) (stageStep a b l S.Fields)
   unfolding restOf mostLeft
   fieldMoves l g low =
       by-test (Moved (atStage S.Fields l)) (ltb (l .part) 7) _ _
       (λ t.
       let h = ltb-true _ _ t in
-      looked (atStage S.Fields l) S.Fields (l .packet) (l .part + 1) (l .first) (l .second) (fieldPlace a b (l .packet) (l .part))
-      (eachOne (7 - (l .part + 1)) (l .part + 1) (fieldPlace a b (l .packet)) ++ (rowOf (l .packet) ++ packetsFrom (l .packet + 1))) low
+      looked (atStage S.Fields l) S.Fields (l .packet) (l .part + 1) (l .first) (l .second)
+      (fieldPlace a b (l .packet) (l .part))
+      (eachOne (7 - (l .part + 1)) (l .part + 1)
+      (fieldPlace a b (l .packet)) ++ (rowOf (l .packet) ++ packetsFrom (l .packet + 1))) low
       (record {
         rest = λ count. refl;
         good =
@@ -201,7 +219,8 @@ module _ (a b : List ℕ) where
       (rw (each-more 7 (l .part) (λ (i : ℕ). fieldPlace a b (l .packet) i ∷ []) h)))
       (λ t.
       let h = ltb-false _ _ t in
-      moved (atStage S.Fields l) S.Bytes (l .packet) 0 (l .first) (l .second) (rowOf (l .packet) ++ packetsFrom (l .packet + 1)) low
+      moved (atStage S.Fields l) S.Bytes (l .packet) 0 (l .first) (l .second)
+      (rowOf (l .packet) ++ packetsFrom (l .packet + 1)) low
       (record {
         rest = λ count. rw sub-zero;
         good =
@@ -214,7 +233,8 @@ module _ (a b : List ℕ) where
       })
       (rw (each-none 7 (l .part) (λ (i : ℕ). fieldPlace a b (l .packet) i ∷ []) h)))
 
-  byteMoves : (l : Listing) → AtByte a b l → Low (atStage S.Bytes l) → Moved (atStage S.Bytes l) (stageStep a b l S.Bytes)
+  byteMoves : (l : Listing) → AtByte a b l → Low (atStage S.Bytes l)
+      → Moved (atStage S.Bytes l) (stageStep a b l S.Bytes)
   unfolding restOf mostLeft
   byteMoves l g low =
       let sum = one-more a (l .packet) in
@@ -223,8 +243,10 @@ module _ (a b : List ℕ) where
       by-test (Moved (atStage S.Bytes l)) (ltb (l .part) (10 * commonWords a b (l .packet))) _ _
       (λ t.
       let h = ltb-true _ _ t in
-      looked (atStage S.Bytes l) S.Bytes (l .packet) (l .part + 1) (l .first) (l .second) (rowPlace (l .packet) (l .part))
-      (eachOne (10 * commonWords a b (l .packet) - (l .part + 1)) (l .part + 1) (rowPlace (l .packet)) ++ packetsFrom (l .packet + 1)) low
+      looked (atStage S.Bytes l) S.Bytes (l .packet) (l .part + 1) (l .first) (l .second)
+      (rowPlace (l .packet) (l .part))
+      (eachOne (10 * commonWords a b (l .packet) - (l .part + 1)) (l .part + 1) (rowPlace (l .packet)) ++ packetsFrom
+      (l .packet + 1)) low
       (record {
         rest = λ count. refl;
         good =
@@ -238,7 +260,8 @@ module _ (a b : List ℕ) where
       (rw (each-more (10 * commonWords a b (l .packet)) (l .part) (λ (j : ℕ). rowPlace (l .packet) j ∷ []) h)))
       (λ t.
       let h = ltb-false _ _ t in
-      moved (atStage S.Bytes l) S.Packet (l .packet + 1) 0 (l .first + countAt a (l .packet)) (l .second + countAt b (l .packet)) (packetsFrom (l .packet + 1)) low
+      moved (atStage S.Bytes l) S.Packet (l .packet + 1) 0 (l .first + countAt a (l .packet))
+      (l .second + countAt b (l .packet)) (packetsFrom (l .packet + 1)) low
       (record {
         rest = λ count. refl;
         good =

@@ -40,7 +40,8 @@ module _ {a b : List ℕ} (g : Both a b) where
   pub both-have : (p : ℕ) → p < common a b → (hasPacket a p ≡ true) × (hasPacket b p ≡ true)
   both-have p h = (packet-here (sound a (g .one)) p (omega arith), packet-here (sound b (g .two)) p (omega arith))
 
-module _ (file : List ℕ) {p first : ℕ} (e : checkOf file ≡ 0) (h : p < packets file) (f : first ≡ wordsBefore file p) where
+module _ (file : List ℕ) {p first : ℕ} (e : checkOf file ≡ 0) (h : p < packets file)
+    (f : first ≡ wordsBefore file p) where
   words-few : first ≤ 6000
   words-few = let s = sound file e in omega (arith, words-at-most s p (omega arith), s .words-few)
 
@@ -52,9 +53,11 @@ module _ (file : List ℕ) {p first : ℕ} (e : checkOf file ≡ 0) (h : p < pac
 
 module _ {a b : List ℕ} {l : Listing} (g : AtByte a b l) where
   pub both-few : (l .first ≤ 6000) × (l .second ≤ 6000)
-  both-few = (words-few a (g .at .both .one) (omega (arith, g .within)) (g .at .one), words-few b (g .at .both .two) (omega (arith, g .within)) (g .at .two))
+  both-few =
+      (words-few a (g .at .both .one) (omega (arith, g .within)) (g .at .one), words-few b (g .at .both .two) (omega (arith, g .within)) (g .at .two))
 
-  pub both-have-word : l .part < 10 * commonWords a b (l .packet) → (hasWord a (l .first + l .part / 10) ≡ true) × (hasWord b (l .second + l .part / 10) ≡ true)
+  pub both-have-word : l .part < 10 * commonWords a b (l .packet) → (hasWord a (l .first + l .part / 10) ≡ true)
+      × (hasWord b (l .second + l .part / 10) ≡ true)
   both-have-word h = (
     has-word a (g .at .both .one) (omega (arith, g .within)) (g .at .one) (l .part) (omega arith),
     has-word b (g .at .both .two) (omega (arith, g .within)) (g .at .two) (l .part) (omega arith),
@@ -62,7 +65,8 @@ module _ {a b : List ℕ} {l : Listing} (g : AtByte a b l) where
 
 -- A place: its line, or nothing.
 module _ (next : Listing) (here : Place) where
-  pub said : {after : Listing} {d d′ : List ℕ} {n : ℕ} → (here .first ≡ here .second → ⊥) → Puts (lineOf here) d n d′ → after ≡ counted 1 next
+  pub said : {after : Listing} {d d′ : List ℕ} {n : ℕ} → (here .first ≡ here .second → ⊥) → Puts (lineOf here) d n d′
+      → after ≡ counted 1 next
       → Prints (tell next here) d after n d′
   said h p q = rw (ne-eqb (here .first) (here .second) h) (record { next-is = q; puts = p })
 
@@ -71,28 +75,36 @@ module _ (next : Listing) (here : Place) where
 
 -- The steps.
 module _ (a b : List ℕ) (l : Listing) {next : Listing} {d d′ : List ℕ} {n : ℕ} where
-  pub packets-looked : {x y : ℕ} → x ≡ packets a → y ≡ packets b → Prints (tell (standing S.Words 0 0 0 0 (l .count)) (place W.Packets x y)) d next n d′
+  pub packets-looked : {x y : ℕ} → x ≡ packets a → y ≡ packets b
+      → Prints (tell (standing S.Words 0 0 0 0 (l .count)) (place W.Packets x y)) d next n d′
       → Prints (packetsStep a b l) d next n d′
   packets-looked p q s = rw (p, q) at s
 
-  pub words-looked : {x y : ℕ} → x ≡ words a → y ≡ words b → Prints (tell (standing S.Counts 0 0 0 0 (l .count)) (place W.Words x y)) d next n d′
+  pub words-looked : {x y : ℕ} → x ≡ words a → y ≡ words b
+      → Prints (tell (standing S.Counts 0 0 0 0 (l .count)) (place W.Words x y)) d next n d′
       → Prints (wordsStep a b l) d next n d′
   words-looked p q s = rw (p, q) at s
 
-  pub counts-looked : {m x y : ℕ} → m ≡ common a b → l .packet < m → x ≡ countAt a (l .packet) → y ≡ countAt b (l .packet)
+  pub counts-looked : {m x y : ℕ} → m ≡ common a b → l .packet < m → x ≡ countAt a (l .packet)
+      → y ≡ countAt b (l .packet)
       → Prints (tell (standing S.Counts (l .packet + 1) 0 0 0 (l .count)) (place (W.Count (l .packet)) x y)) d next n d′
       → Prints (countsStep a b l) d next n d′
   counts-looked e h p q s = rw (lt-ltb (l .packet) (common a b) (omega (arith, e, h))) (rw (p, q) at s)
 
-  pub fields-looked : {x y : ℕ} → l .part < 7 → x ≡ fieldOf (packetAt a (l .packet)) (l .part) → y ≡ fieldOf (packetAt b (l .packet)) (l .part)
-      → Prints (tell (standing S.Fields (l .packet) (l .part + 1) (l .first) (l .second) (l .count)) (place (W.Field (l .packet) (l .part)) x y)) d next n d′
+  pub fields-looked : {x y : ℕ} → l .part < 7 → x ≡ fieldOf (packetAt a (l .packet)) (l .part)
+      → y ≡ fieldOf (packetAt b (l .packet)) (l .part)
+      → Prints (tell (standing S.Fields (l .packet) (l .part + 1) (l .first) (l .second) (l .count))
+      (place (W.Field (l .packet) (l .part)) x y)) d next n d′
       → Prints (fieldsStep a b l) d next n d′
   fields-looked h u v s = rw (lt-ltb (l .part) 7 h) (rw (u, v) at s)
 
-  pub bytes-looked : {i j k x y : ℕ} → i ≡ countAt a (l .packet) → j ≡ countAt b (l .packet) → k ≡ min i j → l .part < 10 * k
+  pub bytes-looked : {i j k x y : ℕ} → i ≡ countAt a (l .packet) → j ≡ countAt b (l .packet) → k ≡ min i j
+      → l .part < 10 * k
       → l .first ≡ wordsBefore a (l .packet) → l .second ≡ wordsBefore b (l .packet)
-      → x ≡ numberAt a (wordPlace a (l .first + l .part / 10) + l .part % 10) 1 → y ≡ numberAt b (wordPlace b (l .second + l .part / 10) + l .part % 10) 1
-      → Prints (tell (standing S.Bytes (l .packet) (l .part + 1) (l .first) (l .second) (l .count)) (place (W.Byte (l .packet) (l .part / 10) (l .part % 10)) x y)) d next n d′
+      → x ≡ numberAt a (wordPlace a (l .first + l .part / 10) + l .part % 10) 1
+      → y ≡ numberAt b (wordPlace b (l .second + l .part / 10) + l .part % 10) 1
+      → Prints (tell (standing S.Bytes (l .packet) (l .part + 1) (l .first) (l .second) (l .count))
+      (place (W.Byte (l .packet) (l .part / 10) (l .part % 10)) x y)) d next n d′
       → Prints (bytesStep a b l) d next n d′
   bytes-looked p q e h f g u v s =
       let x-is = u ∙ ap (λ (n : ℕ). numberAt a (wordPlace a (n + l .part / 10) + l .part % 10) 1) f in
@@ -100,14 +112,17 @@ module _ (a b : List ℕ) (l : Listing) {next : Listing} {d d′ : List ℕ} {n 
       rw (lt-ltb (l .part) (10 * commonWords a b (l .packet)) (omega (arith, p, q, e, h))) (rw (x-is, y-is) at s)
 
 module _ (a b : List ℕ) (l : Listing) (d : List ℕ) where
-  pub counts-passed : {n : ℕ} → n ≡ common a b → n ≤ l .packet → Prints (countsStep a b l) d (standing S.Packet 0 0 0 0 (l .count)) 0 d
-  counts-passed e h = rw (le-ltb (l .packet) (common a b) (omega (arith, e, h))) (record { next-is = refl; puts = none-put d })
+  pub counts-passed : {n : ℕ} → n ≡ common a b → n ≤ l .packet
+      → Prints (countsStep a b l) d (standing S.Packet 0 0 0 0 (l .count)) 0 d
+  counts-passed e h =
+      rw (le-ltb (l .packet) (common a b) (omega (arith, e, h))) (record { next-is = refl; puts = none-put d })
 
   pub fields-passed : 7 ≤ l .part
       → Prints (fieldsStep a b l) d (standing S.Bytes (l .packet) 0 (l .first) (l .second) (l .count)) 0 d
   fields-passed h = rw (le-ltb (l .part) 7 h) (record { next-is = refl; puts = none-put d })
 
-  pub bytes-passed : {n m k : ℕ} → n ≡ countAt a (l .packet) → m ≡ countAt b (l .packet) → k ≡ min n m → 10 * k ≤ l .part
+  pub bytes-passed : {n m k : ℕ} → n ≡ countAt a (l .packet) → m ≡ countAt b (l .packet) → k ≡ min n m
+      → 10 * k ≤ l .part
       → Prints (bytesStep a b l) d (standing S.Packet (l .packet + 1) 0 (l .first + n) (l .second + m) (l .count)) 0 d
   bytes-passed p q e h =
       rw (le-ltb (l .part) (10 * commonWords a b (l .packet)) (omega (arith, p, q, e, h)))
@@ -117,7 +132,8 @@ module _ (a b : List ℕ) (l : Listing) (d : List ℕ) where
       → standing S.Fields (l .packet) 0 (l .first) (l .second) (l .count) ≡ packetStep a b l .next
   packet-more e h = rw (lt-ltb (l .packet) (common a b) (omega (arith, e, h)))
 
-  pub packet-last : {n : ℕ} → n ≡ common a b → n ≤ l .packet → standing S.Last 0 0 0 0 (l .count) ≡ packetStep a b l .next
+  pub packet-last : {n : ℕ} → n ≡ common a b → n ≤ l .packet
+      → standing S.Last 0 0 0 0 (l .count) ≡ packetStep a b l .next
   packet-last e h = rw (le-ltb (l .packet) (common a b) (omega (arith, e, h)))
 
   -- Whether there is a packet more prints nothing.
@@ -125,6 +141,7 @@ module _ (a b : List ℕ) (l : Listing) (d : List ℕ) where
   packet-quiet e = record { next-is = e; puts = at (ltb (l .packet) (common a b)) }
     where
       at : (t : Bool)
-          → Puts (cond t (nothing (standing S.Fields (l .packet) 0 (l .first) (l .second) (l .count))) (nothing (standing S.Last 0 0 0 0 (l .count))) .text) d 0 d
+          → Puts (cond t (nothing (standing S.Fields (l .packet) 0 (l .first) (l .second) (l .count)))
+          (nothing (standing S.Last 0 0 0 0 (l .count))) .text) d 0 d
       at true = none-put d
       at false = none-put d

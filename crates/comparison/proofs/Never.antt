@@ -23,7 +23,8 @@ unfolding firstRefusal
 first-of file zero i r e = absurd (omega (arith, e))
 first-of file (suc n) i r e = at (eqb (packetRefusal file (packetPlace i)) 0) refl (first-of file n (suc i) r)
   where
-    at : (t : Bool) → eqb (packetRefusal file (packetPlace i)) 0 ≡ t → (firstRefusal file n (suc i) ≡ suc r → HasIt file (suc i + n) (suc r))
+    at : (t : Bool) → eqb (packetRefusal file (packetPlace i)) 0 ≡ t
+        → (firstRefusal file n (suc i) ≡ suc r → HasIt file (suc i + n) (suc r))
         → HasIt file (i + suc n) (suc r)
     at true t more =
         let later = more (simp t at e) in
@@ -39,7 +40,8 @@ module _ (file : List ℕ) (short : length file ≤ mostCompared) where
   no-packet-3 : misfit file ≡ false → wordsBefore file (packets file) ≡ words file → HasIt file (0 + packets file) 3 → ⊥
   no-packet-3 fits sum it =
       let j = it .0 in
-      let many = leb-false (countAt file j) maxWords (many-words (inRange (packetAt file j)) (leb (countAt file j) maxWords) (it .1 .1)) in
+      let many = leb-false (countAt file j) maxWords
+      (many-words (inRange (packetAt file j)) (leb (countAt file j) maxWords) (it .1 .1)) in
       let e : j + 1 + (packets file - (j + 1)) ≡ packets file = omega (arith, it .1 .0) in
       let most = more-words file (j + 1) (packets file - (j + 1)) in
       let all : wordsBefore file (j + 1 + (packets file - (j + 1))) ≡ words file = ap (wordsBefore file) e ∙ sum in

@@ -50,7 +50,8 @@ module _ (a b : List ℕ) where
   unfolding startListing
   good-start = start-good (eqb (refusalOf a) 0) (eqb (refusalOf b) 0) refl refl
 
-  pub started : {first second : ℕ} {stage : Stage} → first ≡ refusalOf a → second ≡ refusalOf b → stage ≡ firstStage first second
+  pub started : {first second : ℕ} {stage : Stage} → first ≡ refusalOf a → second ≡ refusalOf b
+      → stage ≡ firstStage first second
       → (startAt stage ≡ startListing a b) × Good a b (startAt stage)
   unfolding startListing
   started p q r = (rw (r, p, q), rw (r, p, q) good-start)
@@ -70,12 +71,14 @@ module _ {a b : List ℕ} {l : Listing} (g : Good a b l) {s : Stage} (e : l .sta
   pub here : GoodAt a b l s
   here = subst (GoodAt a b l) e (g .at)
 
-  pub staged : {next : Listing} {d d′ : List ℕ} {n : ℕ} → Prints (stageStep a b l s) d next n d′ → Prints (stepOf a b l) d next n d′
+  pub staged : {next : Listing} {d d′ : List ℕ} {n : ℕ} → Prints (stageStep a b l s) d next n d′
+      → Prints (stepOf a b l) d next n d′
   unfolding stepOf
   staged {next} {d} {d′} {n} p = subst (λ (z : Stage). Prints (stageStep a b l z) d next n d′) (sym e) p
 
 -- For who calls `step`: with room for a line fewer steps are left.
-pub step-onward : {a b : List ℕ} {l next : Listing} {d d′ : List ℕ} {n : ℕ} → StepPost (printer a b) l d next n d′ → Good a b l → isDone (l .stage) ≡ false
+pub step-onward : {a b : List ℕ} {l next : Listing} {d d′ : List ℕ} {n : ℕ} → StepPost (printer a b) l d next n d′
+    → Good a b l → isDone (l .stage) ≡ false
     → mostPrinted ≤ length d
     → mostLeft a b next < mostLeft a b l
 step-onward {a} {b} f g e h = onward (laws a b) f g h e

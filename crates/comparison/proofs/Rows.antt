@@ -8,7 +8,8 @@ use native.Mathlib.Omega.{arith}
 use Rattle.comparison.specs.declared.Place.{Place}
 use Rattle.comparison.specs.Compare.{each, eachOne}
 
-pub each-more : (n i : ℕ) (given : ℕ → List Place) → i < n → each (n - i) i given ≡ given i ++ each (n - (i + 1)) (i + 1) given
+pub each-more : (n i : ℕ) (given : ℕ → List Place) → i < n
+    → each (n - i) i given ≡ given i ++ each (n - (i + 1)) (i + 1) given
 unfolding each
 each-more n i given h =
     let e : n - i ≡ suc (n - (i + 1)) = omega arith in
@@ -31,11 +32,13 @@ each-and (suc n) m i given =
     let e : suc n + m ≡ suc (n + m) = omega arith in
     let e′ : suc i + n ≡ i + suc n = omega arith in
     rw e
-    (ap (λ (ps : List Place). given i ++ ps) (each-and n m (suc i) given ∙ ap (λ (k : ℕ). each n (suc i) given ++ each m k given) e′)
+    (ap (λ (ps : List Place). given i ++ ps)
+    (each-and n m (suc i) given ∙ ap (λ (k : ℕ). each n (suc i) given ++ each m k given) e′)
     ∙ sym (append-assoc (given i) (each n (suc i) given) (each m (i + suc n) given)))
 
 -- Numbers that give the same one by one give the same.
-each-same : (n i j : ℕ) (given given′ : ℕ → List Place) → ((k : ℕ) → k < n → given (i + k) ≡ given′ (j + k)) → each n i given ≡ each n j given′
+each-same : (n i j : ℕ) (given given′ : ℕ → List Place) → ((k : ℕ) → k < n → given (i + k) ≡ given′ (j + k))
+    → each n i given ≡ each n j given′
 unfolding each
 each-same zero i j given given′ h = refl
 each-same (suc n) i j given given′ h = λ t. first t ++ each-same n (suc i) (suc j) given given′ rest t
@@ -66,7 +69,8 @@ module _ (given : ℕ → ℕ → Place) where
       let e : 10 * suc n ≡ 10 + 10 * n = omega arith in
       let e′ : 10 * suc w ≡ 10 * w + 10 = omega arith in
       rw e
-      ((λ t. each-same 10 0 (10 * w) (λ (k : ℕ). given w k ∷ []) byte here t ++ (row-from n (suc w) ∙ ap (λ (i : ℕ). each (10 * n) i byte) e′) t)
+      ((λ t. each-same 10 0 (10 * w) (λ (k : ℕ). given w k ∷ []) byte here t ++ (row-from n (suc w)
+      ∙ ap (λ (i : ℕ). each (10 * n) i byte) e′) t)
       ∙ sym (each-and 10 (10 * n) (10 * w) byte))
     where
       here : (k : ℕ) → k < 10 → given w (0 + k) ∷ [] ≡ byte (10 * w + k)

@@ -64,7 +64,8 @@ fieldsStep a b l =
 abbrev pub bytesStep : List ℕ → List ℕ → Listing → Printed Listing
 bytesStep a b l =
     cond (ltb (l .part) (wordBytes * commonWords a b (l .packet)))
-    (tell (standing S.Bytes (l .packet) (l .part + 1) (l .first) (l .second) (l .count)) (bytePlace a b (l .packet) (l .part / wordBytes) (l .part % wordBytes)))
+    (tell (standing S.Bytes (l .packet) (l .part + 1) (l .first) (l .second) (l .count))
+    (bytePlace a b (l .packet) (l .part / wordBytes) (l .part % wordBytes)))
     (nothing
     (standing S.Packet (l .packet + 1) 0 (l .first + countAt a (l .packet)) (l .second + countAt b (l .packet)) (l .count)))
 

@@ -35,6 +35,8 @@ from-digit true = refl
 from-digit false = refl
 
 -- Two tests that antt computes to agree at each of the 256 ids agree at an id.
-pub same-at-ids : (one other : ℕ → Bool) → values (λ i. digit (one i)) 256 0 ≡ values (λ i. digit (other i)) 256 0 → (id : ℕ) → id < 256 → one id ≡ other id
+pub same-at-ids : (one other : ℕ → Bool) → values (λ i. digit (one i)) 256 0 ≡ values (λ i. digit (other i)) 256 0
+    → (id : ℕ) → id < 256 → one id ≡ other id
 same-at-ids one other e id h =
-    sym (from-digit (one id)) ∙ ap (λ (n : ℕ). eqb n 1) (agree (λ i. digit (one i)) (λ i. digit (other i)) 256 e id h) ∙ from-digit (other id)
+    sym (from-digit (one id)) ∙ ap (λ (n : ℕ). eqb n 1) (agree (λ i. digit (one i)) (λ i. digit (other i)) 256 e id h)
+    ∙ from-digit (other id)

@@ -31,7 +31,8 @@ record Both (m : Met) (t u : Tracker) (b : List ℕ) (os os′ : List Outcome) :
   pub same : Same (meetsAll m (tookIn t b os)) (total t os .tracker) (total u os′ .tracker)
 
 -- A payload, with six places a word.
-words-alike : (n : ℕ) (m : Met) (t u : Tracker) (b : List ℕ) (p q : ℕ) → Same m t u → mostRecords * n ≤ p → mostRecords * n ≤ q
+words-alike : (n : ℕ) (m : Met) (t u : Tracker) (b : List ℕ) (p q : ℕ) → Same m t u → mostRecords * n ≤ p
+    → mostRecords * n ≤ q
     → Both m t u b (wordCalls n t b p) (wordCalls n u b q)
 unfolding wordCalls kindsIn tookIn meetsAll total
 words-alike zero m t u b p q s hp hq = record { kinds-agree = refl; same = s }
@@ -39,12 +40,14 @@ words-alike (suc n) m t u b p q s hp hq =
     at (word-alike (take 10 b) p q s (λ _. omega arith) (λ _. omega arith)) (words-alike n)
   where
     at : {o o′ : Outcome} → Alike m t (wordOf (take 10 b)) o o′
-        → ((m : Met) (t u : Tracker) (b : List ℕ) (p q : ℕ) → Same m t u → mostRecords * n ≤ p → mostRecords * n ≤ q → Both m t u b (wordCalls n t b p) (wordCalls n u b q))
+        → ((m : Met) (t u : Tracker) (b : List ℕ) (p q : ℕ) → Same m t u → mostRecords * n ≤ p → mostRecords * n ≤ q
+        → Both m t u b (wordCalls n t b p) (wordCalls n u b q))
         → Both m t u b (further o (λ next records. wordCalls n next (drop 10 b) (p - length records)))
         (further o′ (λ next records. wordCalls n next (drop 10 b) (q - length records)))
     at (both-refused x) more = record { kinds-agree = refl; same = s }
     at (both-taken {x = x} {y = y} k g same low low′) more =
-        let rest = more _ (x .next) (y .next) (drop 10 b) (p - length (x .records)) (q - length (y .records)) same (omega arith) (omega arith) in
+        let rest = more _ (x .next) (y .next) (drop 10 b) (p - length (x .records)) (q - length (y .records)) same
+        (omega arith) (omega arith) in
         record { kinds-agree = λ i. kind (k i) (g i) ∷ rest .kinds-agree i; same = rest .same }
 
 -- What one call on two trackers comes to.
@@ -58,14 +61,17 @@ same-accept p s = record { stored = s .stored; is = ap (λ (x : Tracker). accept
 same-reset : {m : Met} {t u : Tracker} → Same m t u → Same m (resetOf t) (resetOf u)
 same-reset s = record { stored = s .stored; is = ap resetOf (s .is); same = s .same }
 
-payload-alike : (m : Met) (t u : Tracker) (b : List ℕ) (places : ℕ) → Same m t u → mostRecords * (length b / 10) ≤ places
+payload-alike : (m : Met) (t u : Tracker) (b : List ℕ) (places : ℕ) → Same m t u
+    → mostRecords * (length b / 10) ≤ places
     → Both m t u b (payloadCalls t b places) (payloadCalls u b places)
 unfolding payloadCalls kindsIn tookIn meetsAll total
 payload-alike m t u b places s h =
-    subst (λ (x : Tracker). Both m t x b (payloadCalls t b places) (payloadCalls x b places)) (s .is) (at (eqb (length b % 10) 0) (t .accepted))
+    subst (λ (x : Tracker). Both m t x b (payloadCalls t b places) (payloadCalls x b places)) (s .is)
+    (at (eqb (length b % 10) 0) (t .accepted))
   where
     at : (whole have : Bool)
-        → Both m t (other s) b (cond whole (cond have (wordCalls (length b / 10) t b places) (refused 2 ∷ [])) (refused 1 ∷ []))
+        → Both m t (other s) b (cond whole (cond have (wordCalls (length b / 10) t b places) (refused 2 ∷ []))
+        (refused 1 ∷ []))
         (cond whole (cond have (wordCalls (length b / 10) (other s) b places) (refused 2 ∷ [])) (refused 1 ∷ []))
     at true true = words-alike (length b / 10) m t (other s) b places places (itself s) h h
     at true false = record { kinds-agree = refl; same = itself s }
@@ -93,11 +99,15 @@ call-agrees m t u (word b buffer) s h =
     record { kinds-agree = both .0; same = both .1 }
   where
     at : {o o′ : Outcome} → wordCall t b (room buffer) ≡ o → Alike m t (wordOf b) o o′
-        → (kindsIn (o ∷ []) ≡ kindsIn (o′ ∷ [])) × Same (meetsAll m (tookIn t b (o ∷ []))) (Word.wordAnswer t o .tracker) (Word.wordAnswer u o′ .tracker)
+        → (kindsIn (o ∷ []) ≡ kindsIn (o′ ∷ []))
+        × Same (meetsAll m (tookIn t b (o ∷ []))) (Word.wordAnswer t o .tracker) (Word.wordAnswer u o′ .tracker)
     at e (both-refused x) = (refl, s)
     at e (both-taken {x = x} {y = y} k g same low low′) =
-        let ten = take-all 10 b (le-of-eq (taken-admitted t b (room buffer) e .ten)) in
-        ((λ i. kind (k i) (g i) ∷ []), subst (λ (l : List ℕ). Same (meets m (record { word = wordOf l; kind = x .kind; seen = t .at .seen })) (x .next) (y .next)) (sym ten) same)
+        let ten = take-all 10 b (le-of-eq (taken-admitted t b (room buffer) e .ten)) in (
+          (λ i. kind (k i) (g i) ∷ []),
+          subst (λ (l : List ℕ). Same
+              (meets m (record { word = wordOf l; kind = x .kind; seen = t .at .seen })) (x .next) (y .next)) (sym ten) same,
+        )
 call-agrees m t u (payload b buffer) s h =
     let both = payload-alike m t u b (room buffer) s h in
     record {
@@ -120,14 +130,16 @@ agree-none : (m : Met) (t u : Tracker) → Same m t u → Agree m t u []
 unfolding kinds run took meetsAll
 agree-none m t u s = record { kinds-agree = refl; same = s }
 
-pub agree-more : (m : Met) (t u : Tracker) (c : Call) (calls : List Call) → Agrees m t u c → Agree (meetsAll m (tookOf t c)) (after t c) (after u c) calls
+pub agree-more : (m : Met) (t u : Tracker) (c : Call) (calls : List Call) → Agrees m t u c
+    → Agree (meetsAll m (tookOf t c)) (after t c) (after u c) calls
     → Agree m t u (c ∷ calls)
 unfolding kinds run took
 agree-more m t u c calls one rest =
     record {
       kinds-agree = λ i. one .kinds-agree i ∷ rest .kinds-agree i;
       same =
-          subst (λ (x : Met). Same x (run (after t c) calls) (run (after u c) calls)) (sym (meets-append m (tookOf t c) (took (after t c) calls)))
+          subst (λ (x : Met). Same x (run (after t c) calls) (run (after u c) calls))
+          (sym (meets-append m (tookOf t c) (took (after t c) calls)))
           (rest .same);
     }
 
@@ -135,4 +147,5 @@ pub calls-agree : (m : Met) (t u : Tracker) (calls : List Call) → Same m t u �
 calls-agree m t u [] s _ = agree-none m t u s
 calls-agree m t u (c ∷ calls) s h =
     let one = call-agrees m t u c s (h .0) in
-    agree-more m t u c calls one (calls-agree (meetsAll m (tookOf t c)) (after t c) (after u c) calls (one .same) (h .1))
+    agree-more m t u c calls one (calls-agree (meetsAll m (tookOf t c)) (after t c) (after u c) calls (one .same)
+    (h .1))

@@ -26,7 +26,8 @@ use Rattle.forgetting.proofs.Forgetting.{forgetting}
 abbrev shown : Answer → Seen
 shown (C.packet n) = Show.packet n
 shown (C.word told buffer) = Show.word (toldNumbers told) buffer
-shown (C.payload words records n buffer) = Show.payload (record { refusal = n; words = words; records = records }) buffer
+shown (C.payload words records n buffer) =
+    Show.payload (record { refusal = n; words = words; records = records }) buffer
 shown C.reset = Show.reset 0
 
 unfoldable showing : List Answer → List Seen
@@ -39,7 +40,8 @@ record Step (t : Tracker) (c : Call) (s : Seen) (b : List ℕ) : Type 0 where
   pub sees : s ≡ shown (answer t c)
 
 step : (a b : List ℕ) (t : Tracker) (c : Call) (s : Seen) → IsTracker a t → Did a c s b → Step t c s b
-step a b t _ _ e (khz-packet {p = p} w) = record { holds = packet-holds a t e p w; sees = ap Show.packet (w .answer .is t e) }
+step a b t _ _ e (khz-packet {p = p} w) =
+    record { holds = packet-holds a t e p w; sees = ap Show.packet (w .answer .is t e) }
 step a b t _ _ e (khz-word {bytes = bytes} {buffer = buffer} w) =
     let r = w .answer .is t e in
     let l = w .buffer-is .is t e in
@@ -54,7 +56,8 @@ record Steps (t : Tracker) (calls : List Call) (seen : List Seen) (b : List ℕ)
   pub holds : IsTracker b (run t calls)
   pub sees : seen ≡ showing (answers t calls)
 
-steps : {a b : List ℕ} {t : Tracker} {calls : List Call} {seen : List Seen} → IsTracker a t → Ran a calls seen b → Steps t calls seen b
+steps : {a b : List ℕ} {t : Tracker} {calls : List Call} {seen : List Seen} → IsTracker a t → Ran a calls seen b
+    → Steps t calls seen b
 unfolding run answers showing
 steps e none = record { holds = e; sees = refl }
 steps {a} {b} {t} e (then {b = m} {c = c} {s = s} d rest) =
@@ -62,7 +65,8 @@ steps {a} {b} {t} e (then {b = m} {c = c} {s = s} d rest) =
     let more = steps (one .holds) rest in
     record { holds = more .holds; sees = λ i. one .sees i ∷ more .sees i }
 
-ran-on : {a m z : List ℕ} {calls later : List Call} {seen more : List Seen} → Ran a calls seen m → Ran m later more z → Ran a (calls ++ later) (seen ++ more) z
+ran-on : {a m z : List ℕ} {calls later : List Call} {seen more : List Seen} → Ran a calls seen m → Ran m later more z
+    → Ran a (calls ++ later) (seen ++ more) z
 ran-on none r = r
 ran-on (then d rest) r = then d (ran-on rest r)
 
@@ -88,12 +92,14 @@ ofCall (C.word bytes buffer) ks = ofWord ks
 ofCall (C.payload bytes buffer) ks = refusalIn ks ∷ takenIn ks ∷ []
 ofCall C.reset ks = 0 ∷ []
 
-word-kinds : (t : Tracker) (o : Outcome) (buffer : List ℕ) → kindsSeen (Show.word (toldNumbers (Word.wordAnswer t o .told)) buffer) ≡ ofWord (kindOf o ∷ [])
+word-kinds : (t : Tracker) (o : Outcome) (buffer : List ℕ)
+    → kindsSeen (Show.word (toldNumbers (Word.wordAnswer t o .told)) buffer) ≡ ofWord (kindOf o ∷ [])
 unfolding ofWord
 word-kinds t (taken x) buffer = refl
 word-kinds t (refused n) buffer = refl
 
-total-kinds : (t : Tracker) (os : List Outcome) → (total t os .refusal ≡ refusalIn (kindsIn os)) × (total t os .words ≡ takenIn (kindsIn os))
+total-kinds : (t : Tracker) (os : List Outcome) → (total t os .refusal ≡ refusalIn (kindsIn os))
+    × (total t os .words ≡ takenIn (kindsIn os))
 unfolding total kindsIn refusalIn takenIn
 total-kinds t [] = (refl, refl)
 total-kinds t (taken x ∷ os) = let more = total-kinds (x .next) os in (more .0, ap (λ (n : ℕ). 1 + n) (more .1))
@@ -122,12 +128,15 @@ calls-kinds t [] = refl
 calls-kinds t (c ∷ calls) = let one = call-kinds t c in let more = calls-kinds (after t c) calls in λ i. one i ∷ more i
 
 -- Two arrays that are trackers with equal settings; each accepts a marker; then equal calls, with room, that begin with an accepted packet.
-pub forgetting-on-arrays : {a a′ b b′ m m′ z z′ : List ℕ} (t u : Tracker) (past past′ calls later : List Call) {sp sp′ sc sc′ sl sl′ : List Seen}
+pub forgetting-on-arrays : {a a′ b b′ m m′ z z′ : List ℕ} (t u : Tracker)
+    (past past′ calls later : List Call) {sp sp′ sc sc′ sl sl′ : List Seen}
     → IsTracker a t → IsTracker a′ u → t .settings ≡ u .settings → AcceptedMarker t past → AcceptedMarker u past′
     → Begins (calls ++ later) → Each Roomy (calls ++ later)
-    → Ran a past sp b → Ran a′ past′ sp′ b′ → Ran b calls sc m → Ran b′ calls sc′ m′ → Ran m later sl z → Ran m′ later sl′ z′
+    → Ran a past sp b → Ran a′ past′ sp′ b′ → Ran b calls sc m → Ran b′ calls sc′ m′ → Ran m later sl z
+    → Ran m′ later sl′ z′
     → ForgottenOnArrays (HasMet (took (run t past) calls)) sc sc′ sl sl′ z z′
-forgetting-on-arrays {a} {a′} {b} {b′} {m} {m′} {z} {z′} t u past past′ calls later e e′ set mt mu begins room p p′ q q′ r r′ =
+forgetting-on-arrays {a} {a′} {b} {b′} {m} {m′} {z} {z′} t u past past′ calls later e e′ set mt mu begins room p p′ q q′
+    r r′ =
     let one = steps e p in
     let one′ = steps e′ p′ in
     let two = steps (one .holds) q in
@@ -139,7 +148,8 @@ forgetting-on-arrays {a} {a′} {b} {b′} {m} {m′} {z} {z′} t u past past�
     let f = forgetting t u past past′ calls later (e .good) (e′ .good) set mt mu begins room in
     record {
       kinds-agree =
-          ap allKinds (all .sees) ∙ calls-kinds (run t past) (calls ++ later) ∙ ap (ofCalls (calls ++ later)) (f .kinds-agree)
+          ap allKinds (all .sees) ∙ calls-kinds (run t past) (calls ++ later)
+          ∙ ap (ofCalls (calls ++ later)) (f .kinds-agree)
           ∙ sym (calls-kinds (run u past′) (calls ++ later)) ∙ sym (ap allKinds (all′ .sees));
       numbers-agree =
           λ met. three .holds .numbers ∙ ap (λ (x : Tracker). encodeOf (run x later)) (f .trackers-agree met)

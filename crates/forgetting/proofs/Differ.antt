@@ -129,8 +129,10 @@ pub record EndsInMarker (words : List Word) : Type 0 where
   pub is : words ≡ earlier ++ marker
   pub is-marker : Marker marker
 
-pub accepted : (t : Tracker) (past : List Call) → EndsInMarker (wordsIn (took t past)) → Each NoReset past → AcceptedMarker t past
-accepted t past m no-reset = record { earlier = m .earlier; marker = m .marker; words = m .is; is-marker = m .is-marker; no-reset = no-reset }
+pub accepted : (t : Tracker) (past : List Call) → EndsInMarker (wordsIn (took t past)) → Each NoReset past
+    → AcceptedMarker t past
+accepted t past m no-reset =
+    record { earlier = m .earlier; marker = m .marker; words = m .is; is-marker = m .is-marker; no-reset = no-reset }
 
 -- A condition is needed: two trackers, pasts and calls that meet all others, and a later answer that differs. Where a marker is left out, or a reset
 -- let in, that is in the first past.
@@ -147,7 +149,8 @@ pub record Needed (left : Condition) (t u : Tracker) (past past′ calls later :
   pub differ : answers (run (run t past) calls) later ≡ answers (run (run u past′) calls) later → ⊥
 
 -- They are all: with none left out, no answer differs.
-pub all-asked : {t u : Tracker} {past past′ calls later : List Call} → Good t → Good u → Needed none t u past past′ calls later → ⊥
+pub all-asked : {t u : Tracker} {past past′ calls later : List Call} → Good t → Good u
+    → Needed none t u past past′ calls later → ⊥
 all-asked {t} {u} {past} {past′} {calls} {later} gt gu n =
     let m = accepted t past (n .marker) (n .no-reset) in
     let f = forgetting t u past past′ calls later gt gu (n .settings-equal) m (n .marker′) (n .begins) (n .roomy) in
@@ -167,13 +170,16 @@ unfolding wordOf number bits
 tdh-0 = record { tdh-id = refl; clear = refl }
 
 by-short : {words : List Word} (before : List Word)
-    → words ≡ before ++ (wordOf (ten 0 0x10 0 0 0xE8) ∷ wordOf (ten 0 0 0 0 0x20) ∷ wordOf (ten 0 0 0 1 0xF0) ∷ []) → EndsInMarker words
+    → words ≡ before ++ (wordOf (ten 0 0x10 0 0 0xE8) ∷ wordOf (ten 0 0 0 0 0x20) ∷ wordOf (ten 0 0 0 1 0xF0) ∷ [])
+    → EndsInMarker words
 by-short before is = record { earlier = before; marker = _; is = is; is-marker = short-frame tdh-0 data-0 done }
 
 by-three : (t : Tracker) (past : List Call) (before : List Word) (lanes bc : ℕ)
     → wordsIn (took t past)
-    ≡ before ++ (wordOf (ten lanes 0 0 0 0x20) ∷ wordOf (ten 0 0x10 bc 0 0x20) ∷ wordOf (ten 0 0 0 0 0x20) ∷ wordOf (ten 0 0 0 1 0xF0) ∷ [])
-    → DataClear (wordOf (ten lanes 0 0 0 0x20)) → DataClear (wordOf (ten 0 0x10 bc 0 0x20)) → Each NoReset past → AcceptedMarker t past
+    ≡ before ++ (wordOf (ten lanes 0 0 0 0x20) ∷ wordOf (ten 0 0x10 bc 0 0x20) ∷ wordOf (ten 0 0 0 0 0x20) ∷ wordOf
+    (ten 0 0 0 1 0xF0) ∷ [])
+    → DataClear (wordOf (ten lanes 0 0 0 0x20)) → DataClear (wordOf (ten 0 0x10 bc 0 0x20)) → Each NoReset past
+    → AcceptedMarker t past
 by-three t past before lanes bc is first second no-reset =
     record { earlier = before; marker = _; words = is; is-marker = three-data first second data-0 done; no-reset = no-reset }
 
@@ -190,15 +196,21 @@ accepted-short = accepted begun (short 1 0) ends-short four
 
 pub accepted-three : AcceptedMarker begun (three 1 0)
 unfolding begun run took tookIn wordsIn packetCall wordCall takenOf recordsOf given wordOf number bits
-accepted-three = by-three begun (three 1 0) [] 1 0 refl (record { data-id = refl; clear = refl }) (record { data-id = refl; clear = refl }) four
+accepted-three =
+    by-three begun (three 1 0) [] 1 0 refl (record { data-id = refl; clear = refl })
+    (record { data-id = refl; clear = refl }) four
 
 other-lanes : AcceptedMarker begun (three 2 0)
 unfolding begun run took tookIn wordsIn packetCall wordCall takenOf recordsOf given wordOf number bits
-other-lanes = by-three begun (three 2 0) [] 2 0 refl (record { data-id = refl; clear = refl }) (record { data-id = refl; clear = refl }) four
+other-lanes =
+    by-three begun (three 2 0) [] 2 0 refl (record { data-id = refl; clear = refl })
+    (record { data-id = refl; clear = refl }) four
 
 other-crossing : AcceptedMarker begun (three 1 1)
 unfolding begun run took tookIn wordsIn packetCall wordCall takenOf recordsOf given wordOf number bits
-other-crossing = by-three begun (three 1 1) [] 1 1 refl (record { data-id = refl; clear = refl }) (record { data-id = refl; clear = refl }) four
+other-crossing =
+    by-three begun (three 1 1) [] 1 1 refl (record { data-id = refl; clear = refl })
+    (record { data-id = refl; clear = refl }) four
 
 pub met : HasMet (took (run begun (short 1 0)) (header ∷ ihw 1 ∷ internal-tdh 0 ∷ cdw 0 ∷ []))
 unfolding begun some run took tookIn packetCall wordCall takenOf recordsOf given wordOf number bits
@@ -213,16 +225,20 @@ abbrev pub all-three : List Call
 all-three = header ∷ ihw 1 ∷ internal-tdh 0 ∷ cdw 0 ∷ []
 
 pub begun-plain : Tracker
-begun-plain = run (startOf (record { running = false; frames = true; periodic = true; period = 198; rule = R.One })) (header ∷ [])
+begun-plain =
+    run (startOf (record { running = false; frames = true; periodic = true; period = 198; rule = R.One })) (header ∷ [])
 
 pub needs-settings : Needed equal-settings begun begun-plain (short 1 0) (three 1 0) all-three (say 0 0 0 0 0x21 ∷ [])
-unfolding begun begun-plain counted some run answers took tookIn wordsIn packetCall wordCall takenOf recordsOf given flat wordOf number bits
+unfolding begun begun-plain counted some run answers took tookIn wordsIn packetCall wordCall takenOf
+    recordsOf given flat wordOf number bits
 needs-settings =
     record {
       settings-equal = tt;
       marker = ends-short;
       no-reset = four;
-      marker′ = by-three begun-plain (three 1 0) [] 1 0 refl (record { data-id = refl; clear = refl }) (record { data-id = refl; clear = refl }) four;
+      marker′ =
+          by-three begun-plain (three 1 0) [] 1 0 refl (record { data-id = refl; clear = refl })
+          (record { data-id = refl; clear = refl }) four;
       begins = refl;
       roomy = (tt, (room, (room, (room, (room, tt)))));
       has-ihw = refl;
@@ -234,19 +250,23 @@ needs-settings =
 -- 02, ticket 9, "Demand 3 asks for equal rules in both trackers": with settings that differ in the rule alone. An internal TDH 198 crossings on, but an
 -- orbit later, gets 45 by rule 2 only.
 pub begun-two : Tracker
-begun-two = run (startOf (record { running = true; frames = true; periodic = true; period = 198; rule = R.Two })) (header ∷ [])
+begun-two =
+    run (startOf (record { running = true; frames = true; periodic = true; period = 198; rule = R.Two })) (header ∷ [])
 
 abbrev pub an-orbit-on : Call
 an-orbit-on = sayIn mostRecords (0 ∷ 0x10 ∷ 198 ∷ 0 ∷ 1 ∷ 0 ∷ 0 ∷ 0 ∷ 0 ∷ 0xE8 ∷ [])
 
 pub needs-rule : Needed equal-settings begun begun-two (short 1 0) (three 1 0) all-three (tdt-done ∷ an-orbit-on ∷ [])
-unfolding begun begun-two counted some run answers took tookIn wordsIn packetCall wordCall takenOf recordsOf given flat wordOf number bits
+unfolding begun begun-two counted some run answers took tookIn wordsIn packetCall wordCall takenOf
+    recordsOf given flat wordOf number bits
 needs-rule =
     record {
       settings-equal = tt;
       marker = ends-short;
       no-reset = four;
-      marker′ = by-three begun-two (three 1 0) [] 1 0 refl (record { data-id = refl; clear = refl }) (record { data-id = refl; clear = refl }) four;
+      marker′ =
+          by-three begun-two (three 1 0) [] 1 0 refl (record { data-id = refl; clear = refl })
+          (record { data-id = refl; clear = refl }) four;
       begins = refl;
       roomy = (tt, (room, (room, (room, (room, (room, tt))))));
       has-ihw = refl;
@@ -257,8 +277,10 @@ needs-rule =
 
 -- Without a marker the first tracker is still in its start state, and takes the three words as IHW, TDH and CDW; the other takes the third as a TDH,
 -- so that the CDW after it is its first.
-pub needs-marker : Needed has-marker begun begun [] (three 1 0) (header ∷ data-word 1 ∷ internal-tdh 0 ∷ cdw 0 ∷ []) (cdw 0 ∷ [])
-unfolding begun counted some run answers took tookIn wordsIn packetCall wordCall takenOf recordsOf given flat wordOf number bits
+pub needs-marker : Needed has-marker begun begun [] (three 1 0) (header ∷ data-word 1 ∷ internal-tdh 0 ∷ cdw 0 ∷ [])
+    (cdw 0 ∷ [])
+unfolding begun counted some run answers took tookIn wordsIn packetCall wordCall takenOf
+    recordsOf given flat wordOf number bits
 needs-marker =
     record {
       settings-equal = refl;
@@ -277,8 +299,10 @@ needs-marker =
 abbrev pub resets : List Call
 resets = ihw 1 ∷ internal-tdh 0 ∷ data-word 0 ∷ reset ∷ tdt-done ∷ []
 
-pub needs-no-reset : Needed not-reset begun begun resets (three 1 0) (header ∷ say 0 0x10 0 0 0x20 ∷ cdw 0 ∷ tdt-done ∷ ihw 1 ∷ []) (tdh 0 ∷ [])
-unfolding begun counted some run answers took tookIn wordsIn packetCall wordCall takenOf recordsOf given flat wordOf number bits
+pub needs-no-reset : Needed not-reset begun begun resets (three 1 0)
+    (header ∷ say 0 0x10 0 0 0x20 ∷ cdw 0 ∷ tdt-done ∷ ihw 1 ∷ []) (tdh 0 ∷ [])
+unfolding begun counted some run answers took tookIn wordsIn packetCall wordCall takenOf
+    recordsOf given flat wordOf number bits
 needs-no-reset =
     record {
       settings-equal = refl;
@@ -298,8 +322,10 @@ needs-no-reset =
 abbrev pub packets : List Call
 packets = ihw 1 ∷ internal-tdh 0 ∷ data-word 0 ∷ header ∷ tdt-done ∷ []
 
-pub needs-packet : Needed packet-first begun begun packets (three 1 0) (ihw 1 ∷ internal-tdh 0 ∷ cdw 0 ∷ []) (header ∷ cdw 1 ∷ [])
-unfolding begun counted some run answers took tookIn wordsIn packetCall wordCall takenOf recordsOf given flat wordOf number bits
+pub needs-packet : Needed packet-first begun begun packets (three 1 0) (ihw 1 ∷ internal-tdh 0 ∷ cdw 0 ∷ [])
+    (header ∷ cdw 1 ∷ [])
+unfolding begun counted some run answers took tookIn wordsIn packetCall wordCall takenOf
+    recordsOf given flat wordOf number bits
 needs-packet =
     record {
       settings-equal = refl;
@@ -318,10 +344,12 @@ needs-packet =
 -- there, and the CDW after it is taken as the TDH.
 abbrev pub cramped : List Call
 cramped =
-    packet (record { position = 0; orbit = 1; trigger = 0; bc = 0; page = 0; stop = 0; format = 2 }) ∷ ihw 1 ∷ sayIn 5 (ten 1 0xD0 198 0 0xE8) ∷ cdw 0 ∷ []
+    packet (record { position = 0; orbit = 1; trigger = 0; bc = 0; page = 0; stop = 0; format = 2 }) ∷ ihw 1 ∷ sayIn 5
+    (ten 1 0xD0 198 0 0xE8) ∷ cdw 0 ∷ []
 
 pub needs-room : Needed has-room begun begun (short 1 0) (three 1 1) cramped (cdw 0 ∷ [])
-unfolding begun counted some run answers took tookIn wordsIn packetCall wordCall takenOf recordsOf given flat wordOf number bits
+unfolding begun counted some run answers took tookIn wordsIn packetCall wordCall takenOf
+    recordsOf given flat wordOf number bits
 needs-room =
     record {
       settings-equal = refl;
@@ -341,7 +369,8 @@ abbrev pub no-ihw : List Call
 no-ihw = header ∷ internal-tdh 0 ∷ cdw 0 ∷ []
 
 pub needs-ihw : Needed met-ihw begun begun (short 1 0) (three 2 0) no-ihw (data-word 0 ∷ [])
-unfolding begun counted some run answers took tookIn wordsIn packetCall wordCall takenOf recordsOf given flat wordOf number bits
+unfolding begun counted some run answers took tookIn wordsIn packetCall wordCall takenOf
+    recordsOf given flat wordOf number bits
 needs-ihw =
     record {
       settings-equal = refl;
@@ -361,7 +390,8 @@ abbrev pub no-internal : List Call
 no-internal = header ∷ ihw 1 ∷ tdh 0 ∷ cdw 0 ∷ tdt-done ∷ []
 
 pub needs-internal : Needed met-internal begun begun (short 1 0) (three 1 1) no-internal (internal-tdh 198 ∷ [])
-unfolding begun counted some run answers took tookIn wordsIn packetCall wordCall takenOf recordsOf given flat wordOf number bits
+unfolding begun counted some run answers took tookIn wordsIn packetCall wordCall takenOf
+    recordsOf given flat wordOf number bits
 needs-internal =
     record {
       settings-equal = refl;
@@ -381,7 +411,9 @@ abbrev pub with-cdw : ℕ → List Call → List Call
 with-cdw user past = ihw 1 ∷ tdh 0 ∷ cdw user ∷ tdt-done ∷ past
 
 abbrev pub words-before : ℕ → List Word
-words-before user = wordOf (ten 1 0 0 0 0xE0) ∷ wordOf (ten 1 0 0 0 0xE8) ∷ wordOf (ten user 0 0 1 0xF8) ∷ wordOf (ten 0 0 0 1 0xF0) ∷ []
+words-before user =
+    wordOf (ten 1 0 0 0 0xE0) ∷ wordOf (ten 1 0 0 0 0xE8) ∷ wordOf (ten user 0 0 1 0xF8) ∷ wordOf
+    (ten 0 0 0 1 0xF0) ∷ []
 
 eight : Each NoReset (with-cdw 0 (short 0 0))
 eight = (tt, (tt, (tt, (tt, (tt, (tt, (tt, (tt, tt))))))))
@@ -390,7 +422,8 @@ abbrev pub no-cdw : List Call
 no-cdw = header ∷ ihw 1 ∷ internal-tdh 0 ∷ []
 
 pub needs-cdw : Needed met-cdw begun begun (with-cdw 1 (short 1 0)) (with-cdw 2 (three 1 0)) no-cdw (cdw 1 ∷ [])
-unfolding begun counted some run answers took tookIn wordsIn packetCall wordCall takenOf recordsOf given flat wordOf number bits
+unfolding begun counted some run answers took tookIn wordsIn packetCall wordCall takenOf
+    recordsOf given flat wordOf number bits
 needs-cdw =
     record {
       settings-equal = refl;

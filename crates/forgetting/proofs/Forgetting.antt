@@ -46,7 +46,8 @@ none-same =
     }
 
 -- An accepted packet on two trackers that have settled, with equal settings.
-packet-same : (t u : Tracker) (p : Packet) → t .settings ≡ u .settings → Settled t → Settled u → Same nothing (acceptOf t p) (acceptOf u p)
+packet-same : (t u : Tracker) (p : Packet) → t .settings ≡ u .settings → Settled t → Settled u
+    → Same nothing (acceptOf t p) (acceptOf u p)
 packet-same t u p e s r =
     let state : t .at .fsm .state ≡ u .at .fsm .state = s .state ∙ sym (r .state) in
     let frame : t .frame ≡ u .frame = s .frame ∙ sym (r .frame) in
@@ -73,14 +74,17 @@ module _ (t u : Tracker) (e : t .settings ≡ u .settings) (st : Settled t) (su 
   -- The first call.
   packet-agrees : (p : Packet) → inRange p ≡ true → Agrees nothing t u (packet p)
   unfolding packetCall tookIn meetsAll
-  packet-agrees p r = record { kinds-agree = simp r; same = carried (accepted t p r) (accepted u p r) (packet-same t u p e st su) }
+  packet-agrees p r =
+      record { kinds-agree = simp r; same = carried (accepted t p r) (accepted u p r) (packet-same t u p e st su) }
 
   -- And those after it.
   from-settled : (calls : List Call) → Begins calls → Each Roomy calls → Agree nothing t u calls
   from-settled [] b h = absurd b
   from-settled (packet p ∷ calls) b h =
       let one = packet-agrees p b in
-      agree-more nothing t u (packet p) calls one (calls-agree (meetsAll nothing (tookOf t (packet p))) (after t (packet p)) (after u (packet p)) calls (one .same) (h .1))
+      agree-more nothing t u (packet p) calls one
+      (calls-agree (meetsAll nothing (tookOf t (packet p))) (after t (packet p)) (after u (packet p)) calls (one .same)
+      (h .1))
   from-settled (word bytes buffer ∷ calls) b h = absurd b
   from-settled (payload bytes buffer ∷ calls) b h = absurd b
   from-settled (reset ∷ calls) b h = absurd b
@@ -90,7 +94,8 @@ module _ (t u : Tracker) (e : t .settings ≡ u .settings) (st : Settled t) (su 
   unfolding nothing
   met-same calls b h met =
       let xs = took t calls in
-      all-same (from-settled calls b h .same) (ihw-met nothing xs ∙ met .ihw) (internal-met nothing xs ∙ met .internal-tdh) (cdw-met nothing xs ∙ met .first-cdw)
+      all-same (from-settled calls b h .same) (ihw-met nothing xs ∙ met .ihw)
+      (internal-met nothing xs ∙ met .internal-tdh) (cdw-met nothing xs ∙ met .first-cdw)
 
 -- Calls that have met something are some calls: they begin as all of them do.
 front : (t : Tracker) (calls later : List Call) → Begins (calls ++ later) → HasMet (took t calls) → Begins calls
@@ -106,14 +111,19 @@ each-front [] later h = tt
 each-front (c ∷ calls) later h = (h .0, each-front calls later (h .1))
 
 -- Two trackers that meet the invariant, with equal settings; each accepts the marker; then come equal calls, with room, that begin with an accepted packet.
-pub forgetting : (t u : Tracker) (past past′ calls later : List Call) → Good t → Good u → t .settings ≡ u .settings → AcceptedMarker t past
+pub forgetting : (t u : Tracker) (past past′ calls later : List Call) → Good t → Good u → t .settings ≡ u .settings
+    → AcceptedMarker t past
     → AcceptedMarker u past′
     → Begins (calls ++ later) → Each Roomy (calls ++ later) → Forgotten (run t past) (run u past′) calls later
 forgetting t u past past′ calls later gt gu e mt mu b h =
-    let set = walk-settings (run-walk t past (mt .no-reset)) ∙ e ∙ sym (walk-settings (run-walk u past′ (mu .no-reset))) in
+    let set = walk-settings (run-walk t past (mt .no-reset)) ∙ e
+    ∙ sym (walk-settings (run-walk u past′ (mu .no-reset))) in
     let st = marked t past gt mt in
     let su = marked u past′ gu mu in
-    let same : HasMet (took (run t past) calls) → run (run t past) calls ≡ run (run u past′) calls = λ met. met-same (run t past) (run u past′) set st su calls (front (run t past) calls later b met) (each-front calls later h) met in
+    let same : HasMet (took (run t past) calls)
+    → run (run t past) calls ≡ run (run u past′) calls =
+    λ met. met-same (run t past) (run u past′) set st su calls (front (run t past) calls later b met)
+    (each-front calls later h) met in
     record {
       kinds-agree = from-settled (run t past) (run u past′) set st su (calls ++ later) b h .kinds-agree;
       trackers-agree = same;
@@ -122,7 +132,8 @@ forgetting t u past past′ calls later gt gu e mt mu b h =
 
 -- Of trackers that the start and any calls gave.
 pub forgetting-from-start : (s : Settings) (before before′ past past′ calls later : List Call)
-    → AcceptedMarker (run (startOf s) before) past → AcceptedMarker (run (startOf s) before′) past′ → Begins (calls ++ later) → Each Roomy (calls ++ later)
+    → AcceptedMarker (run (startOf s) before) past → AcceptedMarker (run (startOf s) before′) past′
+    → Begins (calls ++ later) → Each Roomy (calls ++ later)
     → Forgotten (run (run (startOf s) before) past) (run (run (startOf s) before′) past′) calls later
 forgetting-from-start s before before′ past past′ calls later =
     forgetting (run (startOf s) before) (run (startOf s) before′) past past′ calls later

@@ -32,7 +32,8 @@ rests (accepts p r rest) e s = rests rest e (record { state = s .state; frame = 
 rests (takes w have low rest) e s = absurd (cons≢nil e)
 
 -- A TDT with packet done, where data is expected.
-settles : (t : Tracker) (d : Word) → Good (nextTracker t (takenAs t d) d) → AmongData (t .at .fsm .state) → TdtDone d → Settled (nextTracker t (takenAs t d) d)
+settles : (t : Tracker) (d : Word) → Good (nextTracker t (takenAs t d) d) → AmongData (t .at .fsm .state) → TdtDone d
+    → Settled (nextTracker t (takenAs t d) d)
 settles t d g data-state done =
     let is : takenAs t d ≡ taken K.Tdt S.Three = closes (t .at .fsm .state) d data-state done in
     record {
@@ -40,7 +41,8 @@ settles t d g data-state done =
       frame = at (t .settings .frames) refl is;
     }
   where
-    at : (frames : Bool) → t .settings .frames ≡ frames → takenAs t d ≡ taken K.Tdt S.Three → nextTracker t (takenAs t d) d .frame ≡ noFrame
+    at : (frames : Bool) → t .settings .frames ≡ frames → takenAs t d ≡ taken K.Tdt S.Three
+        → nextTracker t (takenAs t d) d .frame ≡ noFrame
     at true on is = rw (on, is) (frame-closed d (positionNow t) (t .frame) (done .done))
     at false off is = g .frame .absent (g .frame .off off)
 
@@ -66,7 +68,9 @@ pub marked : (t : Tracker) (calls : List Call) → Good t → AcceptedMarker t c
 marked t calls g m =
     let c = marker-closes (m .is-marker) in
     let front = m .earlier ++ c .front in
-    let words = m .words ∙ ap (λ (ws : List Word). m .earlier ++ ws) (c .is) ∙ sym (append-assoc (m .earlier) (c .front) (c .last ∷ [])) in
+    let words = m .words ∙ ap (λ (ws : List Word). m .earlier ++ ws) (c .is)
+    ∙ sym (append-assoc (m .earlier) (c .front) (c .last ∷ [])) in
     closing front (c .last) (run-walk t calls (m .no-reset)) words g
-    (rw (after-append (t .at .fsm .state) (m .earlier) (c .front)) (c .among (stateAfter (t .at .fsm .state) (m .earlier))))
+    (rw (after-append (t .at .fsm .state) (m .earlier) (c .front))
+    (c .among (stateAfter (t .at .fsm .state) (m .earlier))))
     (c .done)

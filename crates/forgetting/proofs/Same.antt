@@ -75,7 +75,8 @@ abbrev tookBy : Tracker → Word → Took
 tookBy t w = record { word = w; kind = takenAs t w .word; seen = t .at .seen }
 
 stored-same : {m : Met} (x : Took) (old old′ : Stored) → SameStored m old old′
-    → SameStored (meets m x) (nextStored (x .kind) (x .seen) (x .word) old) (nextStored (x .kind) (x .seen) (x .word) old′)
+    → SameStored (meets m x) (nextStored (x .kind) (x .seen) (x .word) old)
+    (nextStored (x .kind) (x .seen) (x .word) old′)
 stored-same {m = m} x old old′ s =
     record {
       ihw = ihw-replaced (m .ihw) (x .kind) (x .word) (old .ihw) (old′ .ihw) (s .ihw);
@@ -84,7 +85,8 @@ stored-same {m = m} x old old′ s =
       cdw = cdw-replaced (m .cdw) (x .kind) (x .word) (x .seen) (old .cdw) (old′ .cdw) (s .cdw);
     }
 
-same-next : {m : Met} {t u : Tracker} (w : Word) → Same m t u → Same (meets m (tookBy t w)) (nextTracker t (takenAs t w) w) (nextTracker u (takenAs u w) w)
+same-next : {m : Met} {t u : Tracker} (w : Word) → Same m t u
+    → Same (meets m (tookBy t w)) (nextTracker t (takenAs t w) w) (nextTracker u (takenAs u w) w)
 same-next {t = t} w s =
     record {
       stored = nextStored (takenAs t w .word) (t .at .seen) w (s .stored);
@@ -96,7 +98,8 @@ same-next {t = t} w s =
 pub data Alike (m : Met) (t : Tracker) (w : Word) : Outcome → Outcome → Type 0 where
   both-refused : (n : ℕ) → Alike m t w (refused n) (refused n)
   both-taken : {x y : TakenWord} → x .kind ≡ y .kind → x .guessed ≡ y .guessed
-      → Same (meets m (record { word = w; kind = x .kind; seen = t .at .seen })) (x .next) (y .next) → length (x .records) ≤ mostRecords
+      → Same (meets m (record { word = w; kind = x .kind; seen = t .at .seen })) (x .next) (y .next)
+      → length (x .records) ≤ mostRecords
       → length (y .records) ≤ mostRecords
       → Alike m t w (taken x) (taken y)
 
@@ -111,12 +114,14 @@ taken-alike {m = m} {t = t} w s =
     subst (λ (x : Tracker). Alike m t w (takenOf t w) (takenOf x w)) (s .is)
     (both-taken refl refl (same-next w (itself s)) (few-records t w) (few-records (other s) w))
 
-pub word-alike : {m : Met} {t u : Tracker} (b : List ℕ) (p q : ℕ) → Same m t u → (length b ≡ 10 → mostRecords ≤ p) → (length b ≡ 10 → mostRecords ≤ q)
+pub word-alike : {m : Met} {t u : Tracker} (b : List ℕ) (p q : ℕ) → Same m t u → (length b ≡ 10 → mostRecords ≤ p)
+    → (length b ≡ 10 → mostRecords ≤ q)
     → Alike m t (wordOf b) (wordCall t b p) (wordCall u b q)
 unfolding wordCall
 word-alike {m = m} {t = t} b p q s hp hq =
     subst (λ (x : Tracker). Alike m t (wordOf b) (wordCall t b p) (wordCall x b q)) (s .is)
-    (at (eqb (length b) 10) (t .accepted) (leb maxWords (t .at .count)) (exceed (recordsOf t w) p) (exceed (recordsOf (other s) w) q)
+    (at (eqb (length b) 10) (t .accepted) (leb maxWords (t .at .count)) (exceed (recordsOf t w) p)
+    (exceed (recordsOf (other s) w) q)
     (λ e. six-fit t w p (hp (eqb-true _ _ e))) (λ e. six-fit (other s) w q (hq (eqb-true _ _ e))))
   where
     w : Word
@@ -125,7 +130,8 @@ word-alike {m = m} {t = t} b p q s hp hq =
     at : (ten have full over over′ : Bool) → (ten ≡ true → over ≡ false) → (ten ≡ true → over′ ≡ false)
         → Alike m t w
         (cond ten (cond have (cond full (refused 3) (cond over (refused 4) (takenOf t w))) (refused 2)) (refused 1))
-        (cond ten (cond have (cond full (refused 3) (cond over′ (refused 4) (takenOf (other s) w))) (refused 2)) (refused 1))
+        (cond ten (cond have (cond full (refused 3) (cond over′ (refused 4) (takenOf (other s) w))) (refused 2))
+        (refused 1))
     at true true false over over′ h h′ = rw (h refl, h′ refl) (taken-alike w (itself s))
     at true true true over over′ h h′ = both-refused 3
     at true false full over over′ h h′ = both-refused 2

@@ -29,7 +29,8 @@ use Rattle.forgetting.specs.Forget.{NoReset}
 pub data Walk : Tracker → List Word → Tracker → Type 0 where
   here : {t : Tracker} → Walk t [] t
   accepts : {t u : Tracker} {ws : List Word} (p : Packet) → inRange p ≡ true → Walk (acceptOf t p) ws u → Walk t ws u
-  takes : {t u : Tracker} {ws : List Word} (w : Word) → t .accepted ≡ true → t .at .count < maxWords → Walk (nextTracker t (takenAs t w) w) ws u
+  takes : {t u : Tracker} {ws : List Word} (w : Word) → t .accepted ≡ true → t .at .count < maxWords
+      → Walk (nextTracker t (takenAs t w) w) ws u
       → Walk t (w ∷ ws) u
 
 pub walk-good : {t u : Tracker} {ws : List Word} → Walk t ws u → Good t → Good u
@@ -48,7 +49,8 @@ walk-append (accepts p e first) rest = accepts p e (walk-append first rest)
 walk-append (takes w have low first) rest = takes w have low (walk-append first rest)
 
 -- Of a word call.
-word-walk : (t : Tracker) (b : List ℕ) (places : ℕ) {x : TakenWord} {u : Tracker} {ws : List Word} → wordCall t b places ≡ taken x
+word-walk : (t : Tracker) (b : List ℕ) (places : ℕ) {x : TakenWord} {u : Tracker} {ws : List Word}
+    → wordCall t b places ≡ taken x
     → Walk (x .next) ws u → Walk t (wordOf b ∷ ws) u
 word-walk t b places {u = u} {ws = ws} e rest =
     let a = taken-admitted t b places e in
@@ -62,14 +64,17 @@ words-walk zero t b places = here
 words-walk (suc n) t b places = at (wordCall t (take 10 b) places) (words-walk n) refl
   where
     at : (o : Outcome)
-        → ((next : Tracker) (l : List ℕ) (p : ℕ) → Walk next (wordsIn (tookIn next l (wordCalls n next l p))) (total next (wordCalls n next l p) .tracker))
+        → ((next : Tracker) (l : List ℕ) (p : ℕ)
+        → Walk next (wordsIn (tookIn next l (wordCalls n next l p))) (total next (wordCalls n next l p) .tracker))
         → wordCall t (take 10 b) places ≡ o
-        → let os = further o (λ next records. wordCalls n next (drop 10 b) (places - length records)) in Walk t (wordsIn (tookIn t b os)) (total t os .tracker)
+        → let os = further o (λ next records. wordCalls n next (drop 10 b) (places - length records)) in
+        Walk t (wordsIn (tookIn t b os)) (total t os .tracker)
     at (taken x) rest e = word-walk t (take 10 b) places e (rest (x .next) (drop 10 b) (places - length (x .records)))
     at (refused m) rest e = here
 
 -- Of a payload.
-payload-walk : (t : Tracker) (b : List ℕ) (places : ℕ) → Walk t (wordsIn (tookIn t b (payloadCalls t b places))) (total t (payloadCalls t b places) .tracker)
+payload-walk : (t : Tracker) (b : List ℕ) (places : ℕ)
+    → Walk t (wordsIn (tookIn t b (payloadCalls t b places))) (total t (payloadCalls t b places) .tracker)
 unfolding payloadCalls tookIn wordsIn total
 payload-walk t b places = at (eqb (length b % 10) 0) (t .accepted)
   where
@@ -86,18 +91,21 @@ unfolding packetCall tookIn wordsIn
 call-walk t (packet p) _ = at (inRange p) refl
   where
     at : (b : Bool) → inRange p ≡ b
-        → Walk t [] (cond {A = PacketAnswer} b (record { tracker = acceptOf t p; refusal = 0 }) (record { tracker = t; refusal = 5 }) .tracker)
+        → Walk t [] (cond {A = PacketAnswer} b (record { tracker = acceptOf t p; refusal = 0 })
+        (record { tracker = t; refusal = 5 }) .tracker)
     at true e = accepts p e here
     at false e = here
 call-walk t (word b buffer) _ = at (wordCall t b (room buffer)) refl
   where
-    at : (o : Outcome) → wordCall t b (room buffer) ≡ o → Walk t (wordsIn (tookIn t b (o ∷ []))) (Word.wordAnswer t o .tracker)
+    at : (o : Outcome) → wordCall t b (room buffer) ≡ o
+        → Walk t (wordsIn (tookIn t b (o ∷ []))) (Word.wordAnswer t o .tracker)
     at (taken x) e =
         let ten = take-all 10 b (le-of-eq (taken-admitted t b (room buffer) e .ten)) in
         subst (λ (l : List ℕ). Walk t (wordOf l ∷ []) (x .next)) (sym ten) (word-walk t b (room buffer) e here)
     at (refused n) e = here
 call-walk t (payload b buffer) _ =
-    subst (λ (r : Run). Walk t (wordsIn (tookIn t b (payloadCalls t b (room buffer)))) (r .tracker)) (sym (payload-total t b (room buffer)))
+    subst (λ (r : Run). Walk t (wordsIn (tookIn t b (payloadCalls t b (room buffer)))) (r .tracker))
+    (sym (payload-total t b (room buffer)))
     (payload-walk t b (room buffer))
 call-walk t reset never = absurd never
 

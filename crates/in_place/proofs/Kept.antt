@@ -36,7 +36,8 @@ abbrev pub Kept : Tracker → Type 0
 Kept t = Good t × Sized t
 
 pub kept-start : (s : Settings) → (s .periodic ≡ true → s .period < 2 ^ 32) → Kept (startOf s)
-kept-start s h = (good-start s, record { period = at (s .periodic) h; orbit = omega arith; internal-orbit = omega arith })
+kept-start s h =
+    (good-start s, record { period = at (s .periodic) h; orbit = omega arith; internal-orbit = omega arith })
   where
     at : (b : Bool) → (b ≡ true → s .period < 2 ^ 32) → cond b (s .period) 0 < 2 ^ 32
     at true low = low refl
@@ -49,23 +50,29 @@ sized-next t w s =
     record {
       period = s .period;
       orbit = choice (λ (h : StoredTdh). h .orbit < 2 ^ 32) tdh (bits-below 63 32 w) (s .orbit);
-      internal-orbit = choice (λ (i : InternalTdh). i .orbit < 2 ^ 32) (tdh && eqb (internalTrigger w) 1) (bits-below 63 32 w) (s .internal-orbit);
+      internal-orbit =
+          choice (λ (i : InternalTdh). i .orbit < 2 ^ 32) (tdh && eqb (internalTrigger w) 1) (bits-below 63 32 w)
+          (s .internal-orbit);
     }
 
 module _ (t : Tracker) (k : Kept t) where
   pub kept-reset : Kept (resetOf t)
-  kept-reset = (good-reset t (k .0), record { period = k .1 .period; orbit = k .1 .orbit; internal-orbit = k .1 .internal-orbit })
+  kept-reset =
+      (good-reset t (k .0), record { period = k .1 .period; orbit = k .1 .orbit; internal-orbit = k .1 .internal-orbit })
 
   pub kept-packet : (p : Packet) → Kept (packetCall t p .tracker)
   unfolding packetCall
   kept-packet p = at (inRange p) refl
     where
       at : (b : Bool) → inRange p ≡ b
-          → Kept (cond {A = PacketAnswer} b (record { tracker = acceptOf t p; refusal = 0 }) (record { tracker = t; refusal = 5 }) .tracker)
-      at true e = (good-accept t p (k .0) e, record { period = k .1 .period; orbit = k .1 .orbit; internal-orbit = k .1 .internal-orbit })
+          → Kept (cond {A = PacketAnswer} b (record { tracker = acceptOf t p; refusal = 0 })
+          (record { tracker = t; refusal = 5 }) .tracker)
+      at true e =
+          (good-accept t p (k .0) e, record { period = k .1 .period; orbit = k .1 .orbit; internal-orbit = k .1 .internal-orbit })
       at false e = k
 
-  kept-taken : (bytes : List ℕ) (places : ℕ) (o : Outcome) → wordCall t bytes places ≡ o → Kept (Word.wordAnswer t o .tracker)
+  kept-taken : (bytes : List ℕ) (places : ℕ) (o : Outcome) → wordCall t bytes places ≡ o
+      → Kept (Word.wordAnswer t o .tracker)
   kept-taken bytes places (taken x) e =
       let w = wordOf bytes in
       let a = taken-admitted t bytes places e in
@@ -80,10 +87,12 @@ unfolding wordsFrom
 kept-words zero t bytes places k = k
 kept-words (suc n) t bytes places k = at (wordCall t (take 10 bytes) places) refl (kept-words n)
   where
-    at : (o : Outcome) → wordCall t (take 10 bytes) places ≡ o → ((u : Tracker) (b : List ℕ) (p : ℕ) → Kept u → Kept (wordsFrom n u b p .tracker))
+    at : (o : Outcome) → wordCall t (take 10 bytes) places ≡ o
+        → ((u : Tracker) (b : List ℕ) (p : ℕ) → Kept u → Kept (wordsFrom n u b p .tracker))
         → Kept (wordsFrom (suc n) t bytes places .tracker)
     at (taken x) e more =
-        subst (λ (r : Run). Kept (r .tracker)) (sym (step-taken n t bytes places e)) (more (x .next) _ _ (kept-taken t k (take 10 bytes) places _ e))
+        subst (λ (r : Run). Kept (r .tracker)) (sym (step-taken n t bytes places e))
+        (more (x .next) _ _ (kept-taken t k (take 10 bytes) places _ e))
     at (refused number) e more = subst (λ (r : Run). Kept (r .tracker)) (sym (step-refused n t bytes places e)) k
 
 pub kept-payload : (t : Tracker) (bytes : List ℕ) (places : ℕ) → Kept t → Kept (payloadCall t bytes places .tracker)

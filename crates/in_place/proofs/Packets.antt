@@ -23,9 +23,11 @@ module _ (a : List ℕ) (h : GoodArray a) where
   module _ (p : Packet) {r : Bool} (asked : r ≡ inRange p) where
     pub packet-refused : not r ≡ true → PacketInPlace a p 5 a
     unfolding packetCall
-    packet-refused e = let out = sym asked ∙ not-true r e in record { answer = simp out; numbers = simp out (h .own); good = h }
+    packet-refused e =
+        let out = sym asked ∙ not-true r e in record { answer = simp out; numbers = simp out (h .own); good = h }
 
-    pub packet-done : {after : List ℕ} → not r ≡ false → after ≡ encodeOf (acceptOf (trackerIn a) p) → PacketInPlace a p 0 after
+    pub packet-done : {after : List ℕ} → not r ≡ false → after ≡ encodeOf (acceptOf (trackerIn a) p)
+        → PacketInPlace a p 0 after
     unfolding packetCall
     packet-done {after} e q =
         let within = sym asked ∙ not-false r e in

@@ -39,11 +39,14 @@ use Rattle.in_place.specs.Quiet.{quietId, checkedLanes}
 pub among-data : (n : ℕ) → (eqb n 2 || eqb n 3) ≡ amongData (stateOf n)
 among-data n = at (eqb n 0) (eqb n 1) (eqb n 2) (eqb n 3) (eqb n 4) (eqb n 5) refl refl refl refl
   where
-    neither : {c d : Bool} (k : ℕ) → n ≡ k → eqb n 2 ≡ c → eqb n 3 ≡ d → eqb k 2 ≡ false → eqb k 3 ≡ false → (c || d) ≡ false
-    neither k e r s two three = simp (sym r ∙ ap (λ (j : ℕ). eqb j 2) e ∙ two, sym s ∙ ap (λ (j : ℕ). eqb j 3) e ∙ three)
+    neither : {c d : Bool} (k : ℕ) → n ≡ k → eqb n 2 ≡ c → eqb n 3 ≡ d → eqb k 2 ≡ false → eqb k 3 ≡ false
+        → (c || d) ≡ false
+    neither k e r s two three =
+        simp (sym r ∙ ap (λ (j : ℕ). eqb j 2) e ∙ two, sym s ∙ ap (λ (j : ℕ). eqb j 3) e ∙ three)
 
     at : (a b c d e f : Bool) → eqb n 0 ≡ a → eqb n 1 ≡ b → eqb n 2 ≡ c → eqb n 3 ≡ d
-        → (c || d) ≡ amongData (cond a S.Ihw (cond b S.Tdh (cond c S.Data (cond d S.CData (cond e S.Three (cond f S.CIhw S.CTdh))))))
+        → (c || d) ≡ amongData (cond a S.Ihw (cond b S.Tdh
+        (cond c S.Data (cond d S.CData (cond e S.Three (cond f S.CIhw S.CTdh))))))
     at true b c d e f p q r s = neither 0 (eqb-true n 0 p) r s refl refl
     at false true c d e f p q r s = neither 1 (eqb-true n 1 q) r s refl refl
     at false false true d e f p q r s = refl
@@ -54,7 +57,8 @@ among-data n = at (eqb n 0) (eqb n 1) (eqb n 2) (eqb n 3) (eqb n 4) (eqb n 5) re
 
 -- Of the three rows on lanes and inputs, a data id leaves the one on its own lane.
 one-lane : (bad : Bool → ℕ → Bool) (id : ℕ) → id < 256
-    → (isDataId id && ((eqb (id / 32) 1 && bad true (innerLane id)) || ((eqb (id / 32) 2 && bad false (outerLane id)) || ((eqb (id / 32) 2 && ltb 6 (inputNumber id)) || false))))
+    → (isDataId id && ((eqb (id / 32) 1 && bad true (innerLane id))
+    || ((eqb (id / 32) 2 && bad false (outerLane id)) || ((eqb (id / 32) 2 && ltb 6 (inputNumber id)) || false))))
     ≡ (isDataId id && (bad (isInner id) (laneOf id) || false))
 one-lane bad = same-at-ids _ _ refl
 
@@ -68,13 +72,15 @@ other id k d e = ne-eqb id k (λ q. true≢false (sym d ∙ ap isDataId q ∙ e)
 
 module _ (w : Word) (data-id : isDataId (idOf w) ≡ true) where
   pub as-data : (state : State) → amongData state ≡ true → advanceOf state w ≡ taken K.DataWord state
-  as-data state e = in-data state w e ∙ simp (other (idOf w) 0xF0 data-id refl, other (idOf w) 0xF8 data-id refl, data-id)
+  as-data state e =
+      in-data state w e ∙ simp (other (idOf w) 0xF0 data-id refl, other (idOf w) 0xF8 data-id refl, data-id)
 
   no-cdw : (seen : Bool) → firstCdw seen w ≡ false
   no-cdw seen = rw (other (idOf w) 0xF8 data-id refl) (and-false (not seen))
 
 -- A quiet data word gives no record: its id leaves the row on its own lane, which there is, and which is active.
-pub rows-silent : (s : Settings) (seen : Bool) (lanes : ℕ) (stored : StoredCdw) (w : Word) → quietId (checkedLanes (s .running) lanes) (idOf w) ≡ true
+pub rows-silent : (s : Settings) (seen : Bool) (lanes : ℕ) (stored : StoredCdw) (w : Word)
+    → quietId (checkedLanes (s .running) lanes) (idOf w) ≡ true
     → silent (dataRows s seen lanes stored false w) ≡ true
 unfolding anyOn
 rows-silent s seen lanes stored w q = at (s .running) refl
@@ -88,7 +94,8 @@ rows-silent s seen lanes stored w q = at (s .running) refl
         let lane = quiet-is lanes (idOf w) (simp e at q) .1 in
         let bound = bits-below 79 72 w in
         let there = le-ltb _ _ (data-lane (idOf w) bound is-data) in
-        let rows = simp (is-data, lane, there) at (one-lane (λ inner n. not (isActive (laneAnswer inner n lanes))) (idOf w) bound) in
+        let rows = simp (is-data, lane, there) at (one-lane (λ inner n. not (isActive (laneAnswer inner n lanes)))
+        (idOf w) bound) in
         simp (e, no-cdw w is-data seen, is-data) (ap not rows)
 
 -- The tracker after n such words.
@@ -103,18 +110,22 @@ quietNext t n =
       frame = t .frame;
     }
 
-module _ (t : Tracker) (w : Word) (among : amongData (t .at .fsm .state) ≡ true) (q : quietId (checkedLanes (t .settings .running) (t .stored .ihw .lanes)) (idOf w) ≡ true) where
+module _ (t : Tracker) (w : Word) (among : amongData (t .at .fsm .state) ≡ true)
+    (q : quietId (checkedLanes (t .settings .running) (t .stored .ihw .lanes)) (idOf w) ≡ true) where
   is-data : isDataId (idOf w) ≡ true
   is-data = quiet-is _ (idOf w) q .0
 
   pub quiet-silent : silent (rowsOf t (takenAs t w) w) ≡ true
-  quiet-silent = rw (as-data w is-data (t .at .fsm .state) among) (rows-silent (t .settings) (t .at .seen) (t .stored .ihw .lanes) (t .stored .cdw) w q)
+  quiet-silent =
+      rw (as-data w is-data (t .at .fsm .state) among)
+      (rows-silent (t .settings) (t .at .seen) (t .stored .ihw .lanes) (t .stored .cdw) w q)
 
   pub quiet-next : nextTracker t (takenAs t w) w ≡ quietNext t 1
   quiet-next = simp (as-data w is-data (t .at .fsm .state) among, no-cdw w is-data (t .at .seen))
 
 -- The word call on it.
-module _ (t : Tracker) (bytes : List ℕ) (ten : length bytes ≡ 10) (have : t .accepted ≡ true) (low : t .at .count < maxWords) (among : amongData (t .at .fsm .state) ≡ true)
+module _ (t : Tracker) (bytes : List ℕ) (ten : length bytes ≡ 10) (have : t .accepted ≡ true)
+    (low : t .at .count < maxWords) (among : amongData (t .at .fsm .state) ≡ true)
     (q : quietId (checkedLanes (t .settings .running) (t .stored .ihw .lanes)) (idOf (wordOf bytes)) ≡ true) where
   abbrev by : Tracker → Advanced → Outcome
   by next a =

@@ -24,7 +24,8 @@ use Rattle.in_place.specs.Quiet.{quietId, checkedLanes, idAt, QuietTo, P
 use Rattle.in_place.proofs.QuietId.{quietNext, quiet-silent, quiet-next}
 
 -- The invariant after quiet data words.
-pub good-quiet : (t : Tracker) (n : ℕ) → Good t → t .accepted ≡ true → t .at .count + n ≤ maxWords → Good (quietNext t n)
+pub good-quiet : (t : Tracker) (n : ℕ) → Good t → t .accepted ≡ true → t .at .count + n ≤ maxWords
+    → Good (quietNext t n)
 good-quiet t n g have h =
     record {
       settings = g .settings;
@@ -47,7 +48,8 @@ module _ (b : List ℕ) (byte : (i : ℕ) → getD b i 0 < 256) where
   whole-word at h = length-take-le 10 (drop at b) (simp length-drop (omega arith))
 
   -- One quiet data word.
-  data-step : (n at : ℕ) (t : Tracker) (places : ℕ) → at + 10 ≤ length b → t .accepted ≡ true → t .at .count < maxWords → amongData (t .at .fsm .state) ≡ true
+  data-step : (n at : ℕ) (t : Tracker) (places : ℕ) → at + 10 ≤ length b → t .accepted ≡ true → t .at .count < maxWords
+      → amongData (t .at .fsm .state) ≡ true
       → quietId (asked t) (getD b (at + 9) 0) ≡ true
       → wordsFrom (suc n) t (drop at b) places ≡ preceded 1 [] (wordsFrom n (quietNext t 1) (drop (at + 10) b) places)
   data-step n at t places fits have low among quiet =
@@ -58,21 +60,26 @@ module _ (b : List ℕ) (byte : (i : ℕ) → getD b i 0 < 256) where
       ∙ (λ i. preceded 1 [] (wordsFrom n (quiet-next t w among q i) (drop-drop 10 at b i) places))
 
   -- One more than n of them.
-  data-steps : (n m at : ℕ) (t : Tracker) (places : ℕ) → at + 10 * suc n ≤ length b → t .accepted ≡ true → t .at .count + suc n ≤ maxWords
+  data-steps : (n m at : ℕ) (t : Tracker) (places : ℕ) → at + 10 * suc n ≤ length b → t .accepted ≡ true
+      → t .at .count + suc n ≤ maxWords
       → amongData (t .at .fsm .state) ≡ true
       → ((i : ℕ) → i < suc n → quietId (asked t) (idAt b at i) ≡ true)
-      → wordsFrom (suc (n + m)) t (drop at b) places ≡ preceded (suc n) [] (wordsFrom m (quietNext t (suc n)) (drop (at + 10 * suc n) b) places)
+      → wordsFrom (suc (n + m)) t (drop at b) places ≡ preceded (suc n) []
+      (wordsFrom m (quietNext t (suc n)) (drop (at + 10 * suc n) b) places)
   data-steps zero m at t places fits have low among each =
-      data-step (0 + m) at t places (omega arith) have (omega arith) among (ap (λ (j : ℕ). quietId (asked t) (getD b (j + 9) 0)) (sym (add-zero at)) ∙ each 0 (omega arith))
+      data-step (0 + m) at t places (omega arith) have (omega arith) among
+      (ap (λ (j : ℕ). quietId (asked t) (getD b (j + 9) 0)) (sym (add-zero at)) ∙ each 0 (omega arith))
       ∙ ap (λ (j : ℕ). preceded 1 [] (wordsFrom j (quietNext t 1) (drop (at + 10) b) places)) (zero-add m)
   data-steps (suc n) m at t places fits have low among each =
       let u = quietNext t 1 in
       let more : suc n + m ≡ suc (n + m) = suc-add n m in
       let place : at + 10 + 10 * suc n ≡ at + 10 * suc (suc n) = omega arith in
       let many : t .at .count + 1 + suc n ≡ t .at .count + suc (suc n) = omega arith in
-      data-step (suc n + m) at t places (omega arith) have (omega arith) among (ap (λ (j : ℕ). quietId (asked t) (getD b (j + 9) 0)) (sym (add-zero at)) ∙ each 0 (omega arith))
+      data-step (suc n + m) at t places (omega arith) have (omega arith) among
+      (ap (λ (j : ℕ). quietId (asked t) (getD b (j + 9) 0)) (sym (add-zero at)) ∙ each 0 (omega arith))
       ∙ ap (λ (j : ℕ). preceded 1 [] (wordsFrom j u (drop (at + 10) b) places)) more
-      ∙ ap (preceded 1 []) (data-steps n m (at + 10) u places (omega arith) have (omega arith) among (λ i h. further i ∙ each (suc i) (omega arith)))
+      ∙ ap (preceded 1 []) (data-steps n m (at + 10) u places (omega arith) have (omega arith) among
+      (λ i h. further i ∙ each (suc i) (omega arith)))
       ∙ preceded-twice 1 (suc n) [] [] (wordsFrom m (quietNext u (suc n)) (drop (at + 10 + 10 * suc n) b) places)
       ∙ (λ i. preceded (1 + suc n) [] (wordsFrom m (record {
         settings =
@@ -83,7 +90,8 @@ module _ (b : List ℕ) (byte : (i : ℕ) → getD b i 0 < 256) where
         stored = t .stored;
         frame = t .frame;
       }) (drop (place i) b) places))
-      ∙ ap (λ (k : ℕ). preceded k [] (wordsFrom m (quietNext t (suc (suc n))) (drop (at + 10 * suc (suc n)) b) places)) (one-add (suc n))
+      ∙ ap (λ (k : ℕ). preceded k [] (wordsFrom m (quietNext t (suc (suc n))) (drop (at + 10 * suc (suc n)) b) places))
+      (one-add (suc n))
     where
       further : (i : ℕ) → quietId (asked t) (idAt b (at + 10) i) ≡ quietId (asked t) (idAt b at (suc i))
       further i =
@@ -91,14 +99,17 @@ module _ (b : List ℕ) (byte : (i : ℕ) → getD b i 0 < 256) where
           ap (λ (j : ℕ). quietId (asked t) (getD b j 0)) same
 
   -- A run of quiet data words: what it does to the run of the words after it, whatever room there is.
-  pub quiet-runs : (t : Tracker) (at n : ℕ) → t .accepted ≡ true → at + 10 * suc n ≤ length b → t .at .count + suc n ≤ maxWords
+  pub quiet-runs : (t : Tracker) (at n : ℕ) → t .accepted ≡ true → at + 10 * suc n ≤ length b
+      → t .at .count + suc n ≤ maxWords
       → amongData (t .at .fsm .state) ≡ true
       → ((i : ℕ) → i < suc n → quietId (asked t) (idAt b at i) ≡ true) → (places : ℕ)
       → wordsFrom ((length b - at) / 10) t (drop at b) places
-      ≡ preceded (suc n) [] (wordsFrom ((length b - (at + 10 * suc n)) / 10) (quietNext t (suc n)) (drop (at + 10 * suc n) b) places)
+      ≡ preceded (suc n) [] (wordsFrom ((length b - (at + 10 * suc n)) / 10) (quietNext t (suc n))
+      (drop (at + 10 * suc n) b) places)
   quiet-runs t at n have fits room among each places =
       let left : (length b - at) / 10 ≡ suc (n + (length b - (at + 10 * suc n)) / 10) = omega arith in
-      ap (λ (k : ℕ). wordsFrom k t (drop at b) places) left ∙ data-steps n ((length b - (at + 10 * suc n)) / 10) at t places fits have room among each
+      ap (λ (k : ℕ). wordsFrom k t (drop at b) places) left
+      ∙ data-steps n ((length b - (at + 10 * suc n)) / 10) at t places fits have room among each
 
 -- What is stored after a run, and after none.
 module _ {a b : List ℕ} {at to : ℕ} (q : QuietTo a b at to) where
@@ -109,8 +120,10 @@ module _ {a b : List ℕ} {at to : ℕ} (q : QuietTo a b at to) where
       record { quiet = q; numbers = simp (ne-eqb (q .n) 0 some) (ap (λ (n : ℕ). set (set a P.count (place a P.count + n)) P.seen 1) many) }
 
   pub none-passed : to ≡ at → Passed a b at to a
-  none-passed h = let none : q .n ≡ 0 = omega (arith, q .to-is) in record { quiet = q; numbers = simp (eq-eqb (q .n) 0 none) }
+  none-passed h =
+      let none : q .n ≡ 0 = omega (arith, q .to-is) in record { quiet = q; numbers = simp (eq-eqb (q .n) 0 none) }
 
 -- Where none passed, the numbers are as they were.
 pub untouched : {a b l : List ℕ} {at to : ℕ} → Passed a b at to l → to ≡ at → l ≡ a
-untouched p h = let none : p .quiet .n ≡ 0 = omega (arith, p .quiet .to-is) in simp (eq-eqb (p .quiet .n) 0 none) at (p .numbers)
+untouched p h =
+    let none : p .quiet .n ≡ 0 = omega (arith, p .quiet .to-is) in simp (eq-eqb (p .quiet .n) 0 none) at (p .numbers)

@@ -43,19 +43,22 @@ use Rattle.in_place.proofs.Storing.{counts}
 use Rattle.in_place.proofs.Kept.{kept-word, good-after}
 
 -- Rows that give no record are written by writing nothing.
-pub quiet-wrote : (here : ℕ) (rows : List Row) (buffer : List ℕ) → silent rows ≡ true → WritePost here (padded rows) buffer (Records 0) buffer
+pub quiet-wrote : (here : ℕ) (rows : List Row) (buffer : List ℕ) → silent rows ≡ true
+    → WritePost here (padded rows) buffer (Records 0) buffer
 unfolding flat
 quiet-wrote here rows buffer s =
     let none : given here (padded rows) ≡ [] = given-padded here rows ∙ unheard here rows s in
     let fits = le-ltb (room buffer) 0 (omega arith) in
     record { answer = simp (none, fits); number = simp (none, fits); value = simp (none, fits); buffer-is = simp (none, fits) }
 
-pub of-rows : {here : ℕ} {rows other : List Row} {buffer after : List ℕ} {x : Written} → rows ≡ other → WritePost here rows buffer x after
+pub of-rows : {here : ℕ} {rows other : List Row} {buffer after : List ℕ} {x : Written} → rows ≡ other
+    → WritePost here rows buffer x after
     → WritePost here other buffer x after
 of-rows {here} {rows} {other} {buffer} {after} {x} e w = subst (λ (l : List Row). WritePost here l buffer x after) e w
 
 -- What is asked of the six places is asked of the rows.
-pub kind-silent : (t : Tracker) (a : Advanced) (w : Word) (kind : ItsPayloadWord) {r : Bool} {rows : List Row} → a .word ≡ kind → r ≡ silent rows
+pub kind-silent : (t : Tracker) (a : Advanced) (w : Word) (kind : ItsPayloadWord) {r : Bool} {rows : List Row}
+    → a .word ≡ kind → r ≡ silent rows
     → rows ≡ padded (rowsAs kind (a .guessed) t w) → r ≡ true → silent (rowsOf t a w) ≡ true
 kind-silent t a w kind e p q h =
     subst (λ (k : ItsPayloadWord). silent (rowsAs k (a .guessed) t w) ≡ true) (sym e)
@@ -92,20 +95,27 @@ module _ (a : List ℕ) (w : Word) where
     has-room e = fits (exceed (recordsOf t w) (room buffer)) (length (recordsOf t w)) answered e
 
     pub step-full : x ≡ NoRoom → StepInPlace a w buffer NoRoom a after
-    step-full e = record { wrote = subst (λ (y : Written). WritePost (positionNow t) rows buffer y after) e wrote; numbers = simp (no-room e) }
+    step-full e =
+        record { wrote = subst (λ (y : Written). WritePost (positionNow t) rows buffer y after) e wrote; numbers = simp (no-room e) }
 
-    pub step-done : {n : ℕ} {l : List ℕ} → x ≡ Records n → l ≡ encodeOf (nextTracker t (takenAs t w) w) → StepInPlace a w buffer (Records n) l after
-    step-done e p = record { wrote = subst (λ (y : Written). WritePost (positionNow t) rows buffer y after) e wrote; numbers = simp (has-room e) p }
+    pub step-done : {n : ℕ} {l : List ℕ} → x ≡ Records n → l ≡ encodeOf (nextTracker t (takenAs t w) w)
+        → StepInPlace a w buffer (Records n) l after
+    step-done e p =
+        record { wrote = subst (λ (y : Written). WritePost (positionNow t) rows buffer y after) e wrote; numbers = simp (has-room e) p }
 
 -- The same, with what the code computed on the way.
-pub as-stored : (t : Tracker) {a : Advanced} {w v : Word} {l : List ℕ} → a ≡ takenAs t w → w ≡ v → l ≡ encodeOf (nextTracker t a w) → l
+pub as-stored : (t : Tracker) {a : Advanced} {w v : Word} {l : List ℕ} → a ≡ takenAs t w → w ≡ v
+    → l ≡ encodeOf (nextTracker t a w) → l
     ≡ encodeOf (nextTracker t (takenAs t v) v)
-as-stored t {a} {w} p q e = e ∙ (λ i. encodeOf (nextTracker t (p i) w)) ∙ (λ i. encodeOf (nextTracker t (takenAs t (q i)) (q i)))
+as-stored t {a} {w} p q e =
+    e ∙ (λ i. encodeOf (nextTracker t (p i) w)) ∙ (λ i. encodeOf (nextTracker t (takenAs t (q i)) (q i)))
 
-pub told-is : (t : Tracker) {a : Advanced} {w v : Word} {here n lanes : ℕ} {old : Frame} {frame : FrameTold} → a ≡ takenAs t w → w ≡ v → here
+pub told-is : (t : Tracker) {a : Advanced} {w v : Word} {here n lanes : ℕ} {old : Frame} {frame : FrameTold}
+    → a ≡ takenAs t w → w ≡ v → here
     ≡ positionNow t → old ≡ t .frame
     → frame ≡ frameTold (t .settings .frames) (a .word) w here old → lanes ≡ lanesTold (a .word) w
-    → T.Taken (record { kind = a .word; guessed = a .guessed; records = n; frame = frame; lanes = lanes }) ≡ takenAnswer t (takenAs t v) v n .told
+    → T.Taken (record { kind = a .word; guessed = a .guessed; records = n; frame = frame; lanes = lanes }) ≡ takenAnswer
+    t (takenAs t v) v n .told
 told-is t {a} {w} {v} {here} {n} p q h o f l =
     (λ i. T.Taken (record { kind = a .word; guessed = a .guessed; records = n; frame = f i; lanes = l i }))
     ∙ (λ i. T.Taken (record {
@@ -119,7 +129,8 @@ told-is t {a} {w} {v} {here} {n} p q h o f l =
     ∙ (λ i. takenAnswer t (p i) w n .told)
     ∙ (λ i. takenAnswer t (takenAs t (q i)) (q i) n .told)
 
-pub of-answer : {a buffer after y : List ℕ} {w : Word} {x r : Written} → x ≡ r → StepInPlace a w buffer x after y → StepInPlace a w buffer r after y
+pub of-answer : {a buffer after y : List ℕ} {w : Word} {x r : Written} → x ≡ r → StepInPlace a w buffer x after y
+    → StepInPlace a w buffer r after y
 of-answer {a} {buffer} {after} {y} {w} e s = subst (λ (r : Written). StepInPlace a w buffer r after y) e s
 
 pub of-front : (bytes : List ℕ) {a buffer after y : List ℕ} {x r : Written} → length bytes ≡ 10 → x ≡ r
@@ -129,7 +140,8 @@ of-front bytes {a} {buffer} {after} {y} {x} ten e s =
     of-answer e (subst (λ (l : List ℕ). StepInPlace a (wordOf l) buffer x after y) (take-all 10 bytes (le-of-eq ten)) s)
 
 -- What a word call on the tracker gives is what the call on the numbers gives, once they are those of the tracker that it gives.
-pub in-place : {a bytes buffer : List ℕ} {r : WordAnswer} {after buffer-after : List ℕ} → GoodArray a → WordPost (trackerIn a) bytes buffer r buffer-after
+pub in-place : {a bytes buffer : List ℕ} {r : WordAnswer} {after buffer-after : List ℕ} → GoodArray a
+    → WordPost (trackerIn a) bytes buffer r buffer-after
     → after ≡ encodeOf (r .tracker) → WordInPlace a bytes buffer (r .told) after buffer-after
 in-place {a} {bytes} {buffer} {r} {after} {buffer-after} h w e =
     let numbers = e ∙ ap (λ (x : WordAnswer). encodeOf (x .tracker)) (w .answer) in
@@ -141,7 +153,8 @@ in-place {a} {bytes} {buffer} {r} {after} {buffer-after} h w e =
     }
 
 -- The word call where the word is ten bytes, a packet was accepted and takes one more.
-module _ (a bytes buffer : List ℕ) (h : GoodArray a) (ten : length bytes ≡ 10) (have : isOn (place a P.accepted) ≡ true) (low : place a P.count < maxWords) where
+module _ (a bytes buffer : List ℕ) (h : GoodArray a) (ten : length bytes ≡ 10) (have : isOn (place a P.accepted) ≡ true)
+    (low : place a P.count < maxWords) where
   abbrev cur : Tracker
   cur = trackerIn a
 
@@ -152,9 +165,11 @@ module _ (a bytes buffer : List ℕ) (h : GoodArray a) (ten : length bytes ≡ 1
       → WordPost cur bytes buffer (takenAnswer cur (takenAs cur word) word n) buffer-after
   took s =
       let b = eq-eqb _ _ ten in
-      word-taken cur bytes buffer (h .good) b have low (of-word cur bytes buffer (h .good) b have low (s .wrote)) refl refl
+      word-taken cur bytes buffer (h .good) b have low
+      (of-word cur bytes buffer (h .good) b have low (s .wrote)) refl refl
 
-  pub took-numbers : {n : ℕ} {after buffer-after : List ℕ} → StepInPlace a word buffer (Records n) after buffer-after → after
+  pub took-numbers : {n : ℕ} {after buffer-after : List ℕ} → StepInPlace a word buffer (Records n) after buffer-after
+      → after
       ≡ encodeOf (nextTracker cur (takenAs cur word) word)
   took-numbers s = let e = has-room a word (s .wrote) refl in simp e at (s .numbers)
 
@@ -167,26 +182,31 @@ module _ (a bytes buffer : List ℕ) (h : GoodArray a) (ten : length bytes ≡ 1
   pub denied-numbers : {after buffer-after : List ℕ} → StepInPlace a word buffer NoRoom after buffer-after → after ≡ a
   denied-numbers s = let e = no-room a word (s .wrote) refl in simp e at (s .numbers)
 
-  pub word-done : {n : ℕ} {told : Told} {after buffer-after : List ℕ} → StepInPlace a word buffer (Records n) after buffer-after
+  pub word-done : {n : ℕ} {told : Told} {after buffer-after : List ℕ}
+      → StepInPlace a word buffer (Records n) after buffer-after
       → told ≡ takenAnswer cur (takenAs cur word) word n .told → WordInPlace a bytes buffer told after buffer-after
   word-done {n} {told} {after} {buffer-after} s e =
-      subst (λ (r : Told). WordInPlace a bytes buffer r after buffer-after) (sym e) (in-place h (took s) (took-numbers s))
+      subst (λ (r : Told). WordInPlace a bytes buffer r after buffer-after) (sym e)
+      (in-place h (took s) (took-numbers s))
 
   pub word-denied : {after buffer-after : List ℕ} → StepInPlace a word buffer NoRoom after buffer-after
       → WordInPlace a bytes buffer (T.Refused 4) after buffer-after
   word-denied s = in-place h (denied s) (denied-numbers s ∙ h .own)
 
   -- A quiet data word.
-  pub word-quiet : ((i : ℕ) → getD bytes i 0 < 256) → {to : ℕ} {after : List ℕ} {told : Told} → Passed a bytes 0 to after → (to ≡ 0 → ⊥)
+  pub word-quiet : ((i : ℕ) → getD bytes i 0 < 256) → {to : ℕ} {after : List ℕ} {told : Told}
+      → Passed a bytes 0 to after → (to ≡ 0 → ⊥)
       → told ≡ T.Taken quietTold → WordInPlace a bytes buffer told after buffer
   unfolding flat
   word-quiet byte {to} {after} {told} p some e =
       let q = p .quiet in
       let one : q .n ≡ 1 = omega (arith, q .to-is, q .within) in
-      let id = ap (quietId (checkedLanes (isOn (place a P.running)) (place a P.lanes))) (id-byte bytes ten byte) ∙ q .each 0 (omega arith) in
+      let id = ap (quietId (checkedLanes (isOn (place a P.running)) (place a P.lanes))) (id-byte bytes ten byte)
+      ∙ q .each 0 (omega arith) in
       let call = quiet-call cur bytes ten have low (q .among (λ z. omega arith)) id (room buffer) in
       let numbers =
-      p .numbers ∙ ap (λ (n : ℕ). cond (eqb n 0) a (set (set a P.count (place a P.count + n)) P.seen 1)) one ∙ counts a 1 h
+      p .numbers ∙ ap (λ (n : ℕ). cond (eqb n 0) a (set (set a P.count (place a P.count + n)) P.seen 1)) one
+      ∙ counts a 1 h
       ∙ sym (ap (λ (o : Outcome). encodeOf (wordAnswer cur o .tracker)) call) in
       record {
         answer = e ∙ sym (ap (λ (o : Outcome). wordAnswer cur o .told) call);
@@ -197,21 +217,28 @@ module _ (a bytes buffer : List ℕ) (h : GoodArray a) (ten : length bytes ≡ 1
 
   -- Any other word: the numbers are still as they were.
   module _ {to : ℕ} {l : List ℕ} (p : Passed a bytes 0 to l) (none : to ≡ 0) where
-    pub still-takes : GoodArray l × ((length bytes ≡ 10) × ((isOn (place l P.accepted) ≡ true) × (place l P.count < maxWords)))
+    pub still-takes : GoodArray l × ((length bytes ≡ 10)
+        × ((isOn (place l P.accepted) ≡ true) × (place l P.count < maxWords)))
     still-takes =
-        subst (λ (x : List ℕ). GoodArray x × ((length bytes ≡ 10) × ((isOn (place x P.accepted) ≡ true) × (place x P.count < maxWords)))) (sym (untouched p none)) (h, (ten, (have, low)))
+        subst (λ (x : List ℕ). GoodArray x × ((length bytes ≡ 10)
+        × ((isOn (place x P.accepted) ≡ true) × (place x P.count < maxWords)))) (sym (untouched p none))
+        (h, (ten, (have, low)))
 
     pub as-before : {told : Told} {after buffer-after : List ℕ} → WordInPlace l bytes buffer told after buffer-after
         → WordInPlace a bytes buffer told after buffer-after
-    as-before {told} {after} {buffer-after} w = subst (λ (x : List ℕ). WordInPlace x bytes buffer told after buffer-after) (untouched p none) w
+    as-before {told} {after} {buffer-after} w =
+        subst (λ (x : List ℕ). WordInPlace x bytes buffer told after buffer-after) (untouched p none) w
 
 -- Refusals before that.
 module _ (a bytes buffer : List ℕ) (h : GoodArray a) where
   pub word-refused-1 : (length bytes ≡ 10 → ⊥) → WordInPlace a bytes buffer (T.Refused 1) a buffer
   word-refused-1 e = in-place h (word-1 (trackerIn a) bytes buffer (h .good) (ne-eqb _ _ e) refl) (h .own)
 
-  pub word-refused-2 : length bytes ≡ 10 → isOn (place a P.accepted) ≡ false → WordInPlace a bytes buffer (T.Refused 2) a buffer
+  pub word-refused-2 : length bytes ≡ 10 → isOn (place a P.accepted) ≡ false
+      → WordInPlace a bytes buffer (T.Refused 2) a buffer
   word-refused-2 ten e = in-place h (word-2 (trackerIn a) bytes buffer (h .good) (eq-eqb _ _ ten) e refl) (h .own)
 
-  pub word-refused-3 : length bytes ≡ 10 → isOn (place a P.accepted) ≡ true → maxWords ≤ place a P.count → WordInPlace a bytes buffer (T.Refused 3) a buffer
-  word-refused-3 ten have e = in-place h (word-3 (trackerIn a) bytes buffer (h .good) (eq-eqb _ _ ten) have e refl) (h .own)
+  pub word-refused-3 : length bytes ≡ 10 → isOn (place a P.accepted) ≡ true → maxWords ≤ place a P.count
+      → WordInPlace a bytes buffer (T.Refused 3) a buffer
+  word-refused-3 ten have e =
+      in-place h (word-3 (trackerIn a) bytes buffer (h .good) (eq-eqb _ _ ten) have e refl) (h .own)

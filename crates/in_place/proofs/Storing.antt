@@ -52,9 +52,21 @@ module _ (t : Tracker) (s : State) (w : Word) where
 
   -- What is stored under a condition is stored, or stays.
   tdh-if : (internal opens : Bool) (here : ℕ)
-      → putIf opens P.frame (1 ∷ here ∷ []) (putIf internal P.internal (1 ∷ triggerBc w ∷ triggerOrbit w ∷ []) (sets counted P.tdh (1 ∷ triggerType w ∷ triggerBc w ∷ triggerOrbit w ∷ [])))
+      → putIf opens P.frame (1 ∷ here ∷ []) (putIf internal P.internal (1 ∷ triggerBc w ∷ triggerOrbit w ∷ [])
+      (sets counted P.tdh (1 ∷ triggerType w ∷ triggerBc w ∷ triggerOrbit w ∷ [])))
       ≡ with (t .at .seen)
-      (record { ihw = t .stored .ihw; tdh = record { stored = true; trigger = triggerType w; bc = triggerBc w; orbit = triggerOrbit w }; internal = cond internal (record { stored = true; bc = triggerBc w; orbit = triggerOrbit w }) (t .stored .internal); cdw = t .stored .cdw })
+      (record {
+        ihw = t .stored .ihw;
+        tdh = record {
+          stored = true;
+          trigger = triggerType w;
+          bc = triggerBc w;
+          orbit = triggerOrbit w;
+        };
+        internal = cond internal
+            (record { stored = true; bc = triggerBc w; orbit = triggerOrbit w }) (t .stored .internal);
+        cdw = t .stored .cdw;
+      })
       (cond opens (record { opened = true; start = here }) (t .frame))
   unfolding encodeOf
   tdh-if true true here = refl
@@ -63,23 +75,32 @@ module _ (t : Tracker) (s : State) (w : Word) where
   tdh-if false false here = refl
 
   data-if : (first : Bool) → sets (putIf first P.cdw (1 ∷ userFields w ∷ []) counted) P.seen (1 ∷ [])
-      ≡ with true (record { ihw = t .stored .ihw; tdh = t .stored .tdh; internal = t .stored .internal; cdw = cond first (record { stored = true; user = userFields w }) (t .stored .cdw) }) (t .frame)
+      ≡ with true (record {
+        ihw = t .stored .ihw;
+        tdh = t .stored .tdh;
+        internal = t .stored .internal;
+        cdw = cond first (record { stored = true; user = userFields w }) (t .stored .cdw);
+      }) (t .frame)
   unfolding encodeOf
   data-if true = refl
   data-if false = refl
 
-  tdt-if : (closes : Bool) → putIf closes P.frame (0 ∷ 0 ∷ []) counted ≡ with (t .at .seen) (t .stored) (cond closes noFrame (t .frame))
+  tdt-if : (closes : Bool) → putIf closes P.frame (0 ∷ 0 ∷ []) counted ≡ with (t .at .seen) (t .stored)
+      (cond closes noFrame (t .frame))
   unfolding encodeOf
   tdt-if true = refl
   tdt-if false = refl
 
-  tdh-is : (kind : ItsPayloadWord) → ((l : List ℕ) → storesOf kind w (positionNow t) l ≡ storesOf K.Tdh w (positionNow t) l)
+  tdh-is : (kind : ItsPayloadWord) → ((l : List ℕ)
+      → storesOf kind w (positionNow t) l ≡ storesOf K.Tdh w (positionNow t) l)
       → (g : Bool) → encodeOf (nextTracker t (record { word = kind; guessed = g; fsm = record { state = s } }) w)
       ≡ encodeOf (nextTracker t (record { word = K.Tdh; guessed = g; fsm = record { state = s } }) w)
-      → storesOf kind w (positionNow t) counted ≡ encodeOf (nextTracker t (record { word = kind; guessed = g; fsm = record { state = s } }) w)
+      → storesOf kind w (positionNow t) counted ≡ encodeOf
+      (nextTracker t (record { word = kind; guessed = g; fsm = record { state = s } }) w)
   unfolding encodeOf
   tdh-is kind p g q =
-      p counted ∙ simp flag-back (tdh-if (eqb (internalTrigger w) 1) (t .settings .frames && (not (t .frame .opened) && eqb (continuation w) 0)) (positionNow t)) ∙ sym q
+      p counted ∙ simp flag-back (tdh-if (eqb (internalTrigger w) 1)
+      (t .settings .frames && (not (t .frame .opened) && eqb (continuation w) 0)) (positionNow t)) ∙ sym q
 
   by-kind : (kind : ItsPayloadWord) (g : Bool) → storesOf kind w (positionNow t) counted
       ≡ encodeOf (nextTracker t (record { word = kind; guessed = g; fsm = record { state = s } }) w)
@@ -95,46 +116,57 @@ module _ (t : Tracker) (s : State) (w : Word) where
   by-kind K.Ddw0 g = refl
 
 -- What the code stores for a TDH, one part after the other.
-pub tdh-stored : (w : Word) (l : List ℕ) (here : ℕ) {bc orbit : ℕ} {internal opens : Bool} {first second last : List ℕ} → bc ≡ triggerBc w → orbit
+pub tdh-stored : (w : Word) (l : List ℕ) (here : ℕ) {bc orbit : ℕ} {internal opens : Bool} {first second last : List ℕ}
+    → bc ≡ triggerBc w → orbit
     ≡ triggerOrbit w → internal ≡ eqb (internalTrigger w) 1
     → opens ≡ (isOn (place l P.frames) && (not (isOn (place l P.opened)) && eqb (continuation w) 0)) → first
     ≡ sets l P.tdh (1 ∷ triggerType w ∷ triggerBc w ∷ triggerOrbit w ∷ [])
-    → second ≡ putIf internal P.internal (1 ∷ bc ∷ orbit ∷ []) first → last ≡ putIf opens P.frame (1 ∷ here ∷ []) second → last ≡ tdhStores w here l
+    → second ≡ putIf internal P.internal (1 ∷ bc ∷ orbit ∷ []) first → last ≡ putIf opens P.frame (1 ∷ here ∷ []) second
+    → last ≡ tdhStores w here l
 tdh-stored w l here b m n o p q r =
     r ∙ (λ i. putIf (o i) P.frame (1 ∷ here ∷ []) (q i))
-    ∙ (λ i. putIf (isOn (place l P.frames) && (not (isOn (place l P.opened)) && eqb (continuation w) 0)) P.frame (1 ∷ here ∷ []) (putIf (n i) P.internal (1 ∷ b i ∷ m i ∷ []) (p i)))
+    ∙ (λ i. putIf (isOn (place l P.frames) && (not (isOn (place l P.opened)) && eqb (continuation w) 0)) P.frame
+    (1 ∷ here ∷ []) (putIf (n i) P.internal (1 ∷ b i ∷ m i ∷ []) (p i)))
 
 -- One law for all kinds.
 pub stores-next : (t : Tracker) (a : Advanced) (w : Word)
-    → storesOf (a .word) w (positionNow t) (sets (encodeOf t) P.reached (stateNumber (a .fsm .state) ∷ (t .at .count + 1) ∷ [])) ≡ encodeOf (nextTracker t a w)
+    → storesOf (a .word) w (positionNow t) (sets (encodeOf t) P.reached
+    (stateNumber (a .fsm .state) ∷ (t .at .count + 1) ∷ [])) ≡ encodeOf (nextTracker t a w)
 stores-next t a w = by-kind t (a .fsm .state) w (a .word) (a .guessed)
 
 -- The same on numbers that are a tracker's.
 pub good-next : (l : List ℕ) (a : Advanced) (w : Word) → GoodArray l
-    → storesOf (a .word) w (positionNow (trackerIn l)) (sets l P.reached (stateNumber (a .fsm .state) ∷ (place l P.count + 1) ∷ []))
+    → storesOf (a .word) w (positionNow (trackerIn l))
+    (sets l P.reached (stateNumber (a .fsm .state) ∷ (place l P.count + 1) ∷ []))
     ≡ encodeOf (nextTracker (trackerIn l) a w)
 good-next l a w h =
-    ap (λ (x : List ℕ). storesOf (a .word) w (positionNow (trackerIn l)) (sets x P.reached (stateNumber (a .fsm .state) ∷ (place l P.count + 1) ∷ []))) (h .own)
+    ap (λ (x : List ℕ). storesOf (a .word) w (positionNow (trackerIn l))
+    (sets x P.reached (stateNumber (a .fsm .state) ∷ (place l P.count + 1) ∷ []))) (h .own)
     ∙ stores-next (trackerIn l) a w
 
 -- The same, with what the code stored on the way.
-pub by-stores : (l : List ℕ) (a : Advanced) (w : Word) (kind : ItsPayloadWord) {here : ℕ} {first last : List ℕ} → GoodArray l → here
+pub by-stores : (l : List ℕ) (a : Advanced) (w : Word) (kind : ItsPayloadWord) {here : ℕ} {first last : List ℕ}
+    → GoodArray l → here
     ≡ positionNow (trackerIn l) → a .word ≡ kind
-    → first ≡ sets l P.reached (stateNumber (a .fsm .state) ∷ (place l P.count + 1) ∷ []) → last ≡ storesOf kind w here first → last
+    → first ≡ sets l P.reached (stateNumber (a .fsm .state) ∷ (place l P.count + 1) ∷ [])
+    → last ≡ storesOf kind w here first → last
     ≡ encodeOf (nextTracker (trackerIn l) a w)
 by-stores l a w kind h p e q r = r ∙ (λ i. storesOf (sym e i) w (p i) (q i)) ∙ good-next l a w h
 
 -- A packet that is accepted, and a reset.
 pub accepts : (l : List ℕ) (p : Packet) → GoodArray l
-    → set (set (sets (set l P.accepted 1) P.packet (packetNumbers p)) P.count 0) P.seen 0 ≡ encodeOf (acceptOf (trackerIn l) p)
+    → set (set (sets (set l P.accepted 1) P.packet (packetNumbers p)) P.count 0) P.seen 0 ≡ encodeOf
+    (acceptOf (trackerIn l) p)
 unfolding encodeOf
-accepts l p h = ap (λ (x : List ℕ). set (set (sets (set x P.accepted 1) P.packet (packetNumbers p)) P.count 0) P.seen 0) (h .own)
+accepts l p h =
+    ap (λ (x : List ℕ). set (set (sets (set x P.accepted 1) P.packet (packetNumbers p)) P.count 0) P.seen 0) (h .own)
 
 pub resets : (l : List ℕ) → GoodArray l → set l P.state 0 ≡ encodeOf (resetOf (trackerIn l))
 unfolding encodeOf
 resets l h = ap (λ (x : List ℕ). set x P.state 0) (h .own)
 
 -- So many quiet data words.
-pub counts : (l : List ℕ) (n : ℕ) → GoodArray l → set (set l P.count (place l P.count + n)) P.seen 1 ≡ encodeOf (quietNext (trackerIn l) n)
+pub counts : (l : List ℕ) (n : ℕ) → GoodArray l
+    → set (set l P.count (place l P.count + n)) P.seen 1 ≡ encodeOf (quietNext (trackerIn l) n)
 unfolding encodeOf
 counts l n h = ap (λ (x : List ℕ). set (set x P.count (place l P.count + n)) P.seen 1) (h .own)

@@ -36,7 +36,8 @@ period-fits s e on = let (running, (frames, (periodic, (low, rule)))) = simp tes
 absent : (running frames periodic : Bool) (m : ℕ) (rule : Rule) {n : ℕ} → n ≡ cond periodic m 0
     → startOf (record { running = running; frames = frames; periodic = periodic; period = n; rule = rule })
     ≡ startOf (record { running = running; frames = frames; periodic = periodic; period = m; rule = rule })
-absent running frames true m rule e = ap (λ (k : ℕ). startOf (record { running = running; frames = frames; periodic = true; period = k; rule = rule })) e
+absent running frames true m rule e =
+    ap (λ (k : ℕ). startOf (record { running = running; frames = frames; periodic = true; period = k; rule = rule })) e
 absent running frames false m rule e = refl
 
 stays : (b : Bool) (a : List ℕ) → a ≡ cond b a a
@@ -49,12 +50,14 @@ module _ (a : List ℕ) (s : Asked) where
 
   module _ (long : length a ≡ size) {r : Bool} (asked : r ≡ areSettings s) where
     pub start-refused : not r ≡ true → StartOn a s noSettings a
-    start-refused e = let no = sym asked ∙ not-true r e in record { answer = simp (eq-eqb _ _ long, no); tracker = simp no }
+    start-refused e =
+        let no = sym asked ∙ not-true r e in record { answer = simp (eq-eqb _ _ long, no); tracker = simp no }
 
     pub settings-fit : not r ≡ false → isOn (s .periodic) ≡ true → s .period ≤ maxPeriod
     settings-fit e = period-fits s (sym asked ∙ not-false r e)
 
-    pub start-done : {t : Tracker} {n : ℕ} {rule : Rule} {after : List ℕ} → not r ≡ false → n ≡ cond (isOn (s .periodic)) (s .period) 0 → rule
+    pub start-done : {t : Tracker} {n : ℕ} {rule : Rule} {after : List ℕ} → not r ≡ false
+        → n ≡ cond (isOn (s .periodic)) (s .period) 0 → rule
         ≡ ruleOf (s .rule)
         → t ≡ startOf (record { running = isOn (s .running); frames = isOn (s .frames); periodic = isOn (s .periodic); period = n; rule = rule })
         → after ≡ writtenTo a t → StartOn a s 0 after
@@ -83,10 +86,12 @@ module _ (a : List ℕ) {r : Bool} (asked : r ≡ isTracker a) where
     pub reset-none : ResetOn a noTracker a
     reset-none = record { answer = none refl; tracker = none refl }
 
-    pub word-none : {bytes buffer : List ℕ} {n : WordNumbers} → n ≡ toldNumbers (Refused noTracker) → WordOn a bytes buffer n a buffer
+    pub word-none : {bytes buffer : List ℕ} {n : WordNumbers} → n ≡ toldNumbers (Refused noTracker)
+        → WordOn a bytes buffer n a buffer
     word-none p = record { answer = none p; tracker = none refl; buffer-is = none refl }
 
-    pub payload-none : {bytes buffer : List ℕ} → PayloadOn a bytes buffer (record { refusal = noTracker; words = 0; records = 0 }) a buffer
+    pub payload-none : {bytes buffer : List ℕ}
+        → PayloadOn a bytes buffer (record { refusal = noTracker; words = 0; records = 0 }) a buffer
     payload-none = record { answer = none refl; tracker = none refl; buffer-is = none refl }
 
   -- Where there is one, what the call on its numbers gives.
@@ -98,7 +103,8 @@ module _ (a : List ℕ) {r : Bool} (asked : r ≡ isTracker a) where
     is-good = good-array a one
 
     is : {A : Type 0} {x otherwise : A} (call : Tracker → A) → x ≡ call (trackerIn a) → On a x otherwise call
-    is call p = record { is = λ t i. p ∙ ap call (read-as a t i); none = λ h. absurd (h (trackerIn a) (tests-decide a .0 one)) }
+    is call p =
+        record { is = λ t i. p ∙ ap call (read-as a t i); none = λ h. absurd (h (trackerIn a) (tests-decide a .0 one)) }
 
     pub packet-done : {p : Packet} {n : ℕ} {after : List ℕ} → PacketInPlace a p n after → PacketOn a p n after
     packet-done {p} w =
@@ -107,22 +113,28 @@ module _ (a : List ℕ) {r : Bool} (asked : r ≡ isTracker a) where
     pub reset-done : {after : List ℕ} → ResetInPlace a after → ResetOn a 0 after
     reset-done w = record { answer = is (λ t. 0) refl; tracker = is (λ t. encodeOf (resetOf t)) (w .numbers) }
 
-    pub word-done : {bytes buffer : List ℕ} {told : Told} {n : WordNumbers} {after buffer-after : List ℕ} → WordInPlace a bytes buffer told after buffer-after
+    pub word-done : {bytes buffer : List ℕ} {told : Told} {n : WordNumbers} {after buffer-after : List ℕ}
+        → WordInPlace a bytes buffer told after buffer-after
         → n ≡ toldNumbers told → WordOn a bytes buffer n after buffer-after
     word-done {bytes} {buffer} w p =
         record {
-          answer = is (λ t. toldNumbers (Word.wordAnswer t (wordCall t bytes (room buffer)) .told)) (p ∙ ap toldNumbers (w .answer));
+          answer =
+              is (λ t. toldNumbers (Word.wordAnswer t (wordCall t bytes (room buffer)) .told))
+              (p ∙ ap toldNumbers (w .answer));
           tracker = is (λ t. encodeOf (Word.wordAnswer t (wordCall t bytes (room buffer)) .tracker)) (w .numbers);
           buffer-is = is (λ t. over (flat (recordsIn (wordCall t bytes (room buffer)))) buffer) (w .buffer-is);
         }
 
-    pub payload-done : {bytes buffer : List ℕ} {told : PayloadTold} {after buffer-after : List ℕ} → PayloadInPlace a bytes buffer told after buffer-after
-        → PayloadOn a bytes buffer (record { refusal = told .refusal; words = told .words; records = told .records }) after buffer-after
+    pub payload-done : {bytes buffer : List ℕ} {told : PayloadTold} {after buffer-after : List ℕ}
+        → PayloadInPlace a bytes buffer told after buffer-after
+        → PayloadOn a bytes buffer (record { refusal = told .refusal; words = told .words; records = told .records })
+        after buffer-after
     payload-done {bytes} {buffer} w =
         record {
           answer =
               is (λ t. paidNumbers (Payload.payloadAnswer (payloadCall t bytes (room buffer))))
-              (ap (λ (x : PayloadTold). record { refusal = x .refusal; words = x .words; records = x .records }) (w .answer));
+              (ap (λ (x : PayloadTold). record { refusal = x .refusal; words = x .words; records = x .records })
+              (w .answer));
           tracker = is (λ t. encodeOf (payloadCall t bytes (room buffer) .tracker)) (w .numbers);
           buffer-is = is (λ t. over (flat (payloadCall t bytes (room buffer) .records)) buffer) (w .buffer-is);
         }

@@ -14,7 +14,8 @@ use Rattle.words.specs.Word.{wordBytes, wordOf, FromBufPost}
 use Rattle.khandzorul.specs.declared.status.StatusNumbers.{StatusNumbers}
 use Rattle.khandzorul.specs.Status.{statusOf}
 
-pub answered : {n m : ℕ} → n ≡ m → _≡_ {A = StatusNumbers} (record { refusal = 0; status = n }) (record { refusal = 0; status = m })
+pub answered : {n m : ℕ} → n ≡ m → _≡_ {A = StatusNumbers} (record { refusal = 0; status = n })
+    (record { refusal = 0; status = m })
 answered e = λ i. record { refusal = 0; status = e i }
 
 module _ (status : Word → ℕ) (b : List ℕ) {r : FromBuf} (p : FromBufPost b r) where

@@ -31,26 +31,31 @@ use Rattle.khandzorul.proofs.Exports.{period-fits}
 again : {t : Tracker} {after : List ℕ} → after ≡ encodeOf t → Kept t → IsTracker after t
 again p k = record { numbers = p; good = k .0; sized = k .1 }
 
-pub start-holds : (a : List ℕ) (s : Asked) {r : ℕ} {after : List ℕ} → StartOn a s r after → areSettings s ≡ true → length a ≡ size
+pub start-holds : (a : List ℕ) (s : Asked) {r : ℕ} {after : List ℕ} → StartOn a s r after → areSettings s ≡ true
+    → length a ≡ size
     → IsTracker after (startOf (settingsFrom s))
 start-holds a s w h l =
-    again (simp (h, eq-eqb _ _ l) at (w .tracker)) (kept-start (settingsFrom s) (λ on. let low = period-fits s h on in omega arith))
+    again (simp (h, eq-eqb _ _ l) at (w .tracker)) (kept-start (settingsFrom s) (λ on. let low = period-fits s h on in
+    omega arith))
 
 module _ (a : List ℕ) (t : Tracker) (i : IsTracker a t) where
   kept : Kept t
   kept = (i .good, i .sized)
 
-  pub packet-holds : (p : Packet) {r : ℕ} {after : List ℕ} → PacketOn a p r after → IsTracker after (packetCall t p .tracker)
+  pub packet-holds : (p : Packet) {r : ℕ} {after : List ℕ} → PacketOn a p r after
+      → IsTracker after (packetCall t p .tracker)
   packet-holds p w = again (w .tracker .is t i) (kept-packet t kept p)
 
   pub reset-holds : {r : ℕ} {after : List ℕ} → ResetOn a r after → IsTracker after (resetOf t)
   reset-holds w = again (w .tracker .is t i) (kept-reset t kept)
 
-  pub word-holds : (bytes buffer : List ℕ) {r : WordNumbers} {after buffer-after : List ℕ} → WordOn a bytes buffer r after buffer-after
+  pub word-holds : (bytes buffer : List ℕ) {r : WordNumbers} {after buffer-after : List ℕ}
+      → WordOn a bytes buffer r after buffer-after
       → IsTracker after (Word.wordAnswer t (wordCall t bytes (room buffer)) .tracker)
   word-holds bytes buffer w = again (w .tracker .is t i) (kept-word t kept bytes (room buffer))
 
-  pub payload-holds : (bytes buffer : List ℕ) {r : PayloadNumbers} {after buffer-after : List ℕ} → PayloadOn a bytes buffer r after buffer-after
+  pub payload-holds : (bytes buffer : List ℕ) {r : PayloadNumbers} {after buffer-after : List ℕ}
+      → PayloadOn a bytes buffer r after buffer-after
       → IsTracker after (payloadCall t bytes (room buffer) .tracker)
   payload-holds bytes buffer w = again (w .tracker .is t i) (kept-payload t bytes (room buffer) kept)
 
@@ -58,7 +63,8 @@ module _ (a : List ℕ) (t : Tracker) (i : IsTracker a t) where
 pub start-refused : (a : List ℕ) (s : Asked) {r : ℕ} {after : List ℕ} → StartOn a s r after → (r ≡ 0 → ⊥) → after ≡ a
 start-refused a s {r} {after} w h = at (eqb (length a) size) (areSettings s) (w .answer) (w .tracker)
   where
-    at : (long are : Bool) → r ≡ cond long (cond are 0 noSettings) noTracker → after ≡ cond are (cond long (encodeOf (startOf (settingsFrom s))) a) a
+    at : (long are : Bool) → r ≡ cond long (cond are 0 noSettings) noTracker
+        → after ≡ cond are (cond long (encodeOf (startOf (settingsFrom s))) a) a
         → after ≡ a
     at true true p q = absurd (h p)
     at true false p q = q
@@ -82,7 +88,8 @@ reset-refused a {r} {after} w h = at (decide a)
     at (none other) = w .tracker .none other
 
 -- A refused word leaves both arrays, and all other numbers of its answer are 0.
-pub word-refused : (a bytes buffer : List ℕ) {r : WordNumbers} {after buffer-after : List ℕ} → WordOn a bytes buffer r after buffer-after → (r .refusal ≡ 0 → ⊥)
+pub word-refused : (a bytes buffer : List ℕ) {r : WordNumbers} {after buffer-after : List ℕ}
+    → WordOn a bytes buffer r after buffer-after → (r .refusal ≡ 0 → ⊥)
     → (after ≡ a) × ((buffer-after ≡ buffer) × (r ≡ toldNumbers (Refused (r .refusal))))
 unfolding flat
 word-refused a bytes buffer {r} {after} {buffer-after} w h = at (decide a)
@@ -93,7 +100,8 @@ word-refused a bytes buffer {r} {after} {buffer-after} w h = at (decide a)
     by : (t : Tracker) → IsTracker a t → (o : Outcome) → wordCall t bytes (room buffer) ≡ o
         → (after ≡ a) × ((buffer-after ≡ buffer) × (r ≡ toldNumbers (Refused (r .refusal))))
     by t i (taken x) c = absurd (h (ap (λ (n : WordNumbers). n .refusal) (simp c at (w .answer .is t i))))
-    by t i (refused n) c = ((simp c at (w .tracker .is t i)) ∙ sym (i .numbers), (simp c at (w .buffer-is .is t i), numbers n (simp c at (w .answer .is t i))))
+    by t i (refused n) c =
+        ((simp c at (w .tracker .is t i)) ∙ sym (i .numbers), (simp c at (w .buffer-is .is t i), numbers n (simp c at (w .answer .is t i))))
 
     at : Decided a → (after ≡ a) × ((buffer-after ≡ buffer) × (r ≡ toldNumbers (Refused (r .refusal))))
     at (is t i) = by t i (wordCall t bytes (room buffer)) refl
@@ -107,7 +115,8 @@ stopped : (t : Tracker) (n : ℕ) → Stays t (stop t n)
 unfolding Stays
 stopped t n = (refl, refl)
 
-none-taken : (n : ℕ) (t : Tracker) (bytes : List ℕ) (places : ℕ) → wordsFrom n t bytes places .words ≡ 0 → Stays t (wordsFrom n t bytes places)
+none-taken : (n : ℕ) (t : Tracker) (bytes : List ℕ) (places : ℕ) → wordsFrom n t bytes places .words ≡ 0
+    → Stays t (wordsFrom n t bytes places)
 unfolding wordsFrom
 none-taken zero t bytes places z = stopped t 0
 none-taken (suc n) t bytes places z = at (wordCall t (take 10 bytes) places) refl
@@ -117,18 +126,22 @@ none-taken (suc n) t bytes places z = at (wordCall t (take 10 bytes) places) ref
         let some = ap (λ (r : Run). r .words) (step-taken n t bytes places e) in absurd (omega (arith, some, z))
     at (refused number) e = subst (Stays t) (sym (step-refused n t bytes places e)) (stopped t number)
 
-none-paid : (t : Tracker) (bytes : List ℕ) (places : ℕ) → payloadCall t bytes places .words ≡ 0 → Stays t (payloadCall t bytes places)
+none-paid : (t : Tracker) (bytes : List ℕ) (places : ℕ) → payloadCall t bytes places .words ≡ 0
+    → Stays t (payloadCall t bytes places)
 unfolding payloadCall
 none-paid t bytes places = at (eqb (length bytes % 10) 0) (t .accepted)
   where
-    at : (whole have : Bool) → cond {A = Run} whole (cond have (wordsFrom (length bytes / 10) t bytes places) (stop t 2)) (stop t 1) .words ≡ 0
-        → Stays t (cond {A = Run} whole (cond have (wordsFrom (length bytes / 10) t bytes places) (stop t 2)) (stop t 1))
+    at : (whole have : Bool) → cond {A = Run} whole
+        (cond have (wordsFrom (length bytes / 10) t bytes places) (stop t 2)) (stop t 1) .words ≡ 0
+        → Stays t (cond {A = Run} whole (cond have (wordsFrom (length bytes / 10) t bytes places) (stop t 2))
+        (stop t 1))
     at true true z = none-taken (length bytes / 10) t bytes places z
     at true false z = stopped t 2
     at false have z = stopped t 1
 
 -- A payload that took no word leaves both arrays.
-pub payload-refused : (a bytes buffer : List ℕ) {r : PayloadNumbers} {after buffer-after : List ℕ} → PayloadOn a bytes buffer r after buffer-after
+pub payload-refused : (a bytes buffer : List ℕ) {r : PayloadNumbers} {after buffer-after : List ℕ}
+    → PayloadOn a bytes buffer r after buffer-after
     → r .words ≡ 0
     → (after ≡ a) × (buffer-after ≡ buffer)
 unfolding flat Stays

@@ -22,5 +22,6 @@ stride false = omega arith
 pub position-most : (p : Packet) (taken : ℕ) → inRange p ≡ true → taken < maxWords → positionOf p taken ≤ mostPosition
 position-most p taken e h =
     let low = position-low p e in
-    let here : taken * cond (eqb (p .format) 0) 16 10 ≤ taken * 16 = mul-le-mul-left taken (stride (eqb (p .format) 0)) in
+    let here : taken * cond (eqb (p .format) 0) 16 10 ≤ taken * 16 =
+    mul-le-mul-left taken (stride (eqb (p .format) 0)) in
     omega arith

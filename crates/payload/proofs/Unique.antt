@@ -8,7 +8,8 @@ use Rattle.cdp_running.specs.declared.Tracker.{Tracker}
 use Rattle.payload.specs.declared.PayloadAnswer.{PayloadAnswer}
 use Rattle.payload.specs.Payload.{PayloadPost}
 
-pub payload-unique : {t : Tracker} {bytes buffer after after′ : List ℕ} {first second : PayloadAnswer} → PayloadPost t bytes buffer first after
+pub payload-unique : {t : Tracker} {bytes buffer after after′ : List ℕ} {first second : PayloadAnswer}
+    → PayloadPost t bytes buffer first after
     → PayloadPost t bytes buffer second after′
     → (first ≡ second) × (after ≡ after′)
 payload-unique a b = (unique (a .answer) (b .answer), unique (a .buffer-is) (b .buffer-is))

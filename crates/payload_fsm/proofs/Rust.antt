@@ -77,20 +77,24 @@ To state a = Follows state (a .fsm .state)
 pub follows : (state : State) (w : Word) → Follows state (nextState state w)
 follows S.Ihw w = record { event = _; listed = line 17 (lit< tt) }
 follows S.Tdh w =
-    choice (Follows S.Tdh) (eqb (noData w) 0) (record { event = _; listed = line 5 (lit< tt) }) (record { event = _; listed = line 2 (lit< tt) })
+    choice (Follows S.Tdh) (eqb (noData w) 0) (record { event = _; listed = line 5 (lit< tt) })
+    (record { event = _; listed = line 2 (lit< tt) })
 follows S.Data w =
-    data-rows (To S.Data) w S.Data (record { event = _; listed = line 15 (lit< tt) }) (record { event = _; listed = line 13 (lit< tt) })
+    data-rows (To S.Data) w S.Data (record { event = _; listed = line 15 (lit< tt) })
+    (record { event = _; listed = line 13 (lit< tt) })
     (record { event = _; listed = line 11 (lit< tt) })
     (record { event = _; listed = line 11 (lit< tt) })
     (record { event = _; listed = line 11 (lit< tt) })
 follows S.CData w =
-    data-rows (To S.CData) w S.CData (record { event = _; listed = line 16 (lit< tt) }) (record { event = _; listed = line 14 (lit< tt) })
+    data-rows (To S.CData) w S.CData (record { event = _; listed = line 16 (lit< tt) })
+    (record { event = _; listed = line 14 (lit< tt) })
     (record { event = _; listed = line 12 (lit< tt) })
     (record { event = _; listed = line 12 (lit< tt) })
     (record { event = _; listed = line 12 (lit< tt) })
 follows S.Three w =
     three-rows (To S.Three) w
-    (choice (Follows S.Three) (eqb (noData w) 0) (record { event = _; listed = line 7 (lit< tt) }) (record { event = _; listed = line 4 (lit< tt) }))
+    (choice (Follows S.Three) (eqb (noData w) 0) (record { event = _; listed = line 7 (lit< tt) })
+    (record { event = _; listed = line 4 (lit< tt) }))
     (record { event = _; listed = line 10 (lit< tt) })
     (record { event = _; listed = line 18 (lit< tt) })
     (record { event = _; listed = line 10 (lit< tt) })

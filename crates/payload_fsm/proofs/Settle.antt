@@ -44,7 +44,8 @@ onward three S.Three = three
 onward three S.CIhw = S.CTdh
 onward three S.CTdh = S.CData
 
-module _ (w : Word) (row : Advanced) (clear : noData w ≡ 0) (no-tdt : eqb (idOf w) tdtId ≡ false) (in-three : inThree w ≡ row) where
+module _ (w : Word) (row : Advanced) (clear : noData w ≡ 0) (no-tdt : eqb (idOf w) tdtId ≡ false)
+    (in-three : inThree w ≡ row) where
   goes : (state : State) → nextState state w ≡ onward (stateOf row) state
   goes S.Ihw = refl
   goes S.Tdh = simp (eq-eqb _ _ clear)
@@ -56,7 +57,8 @@ module _ (w : Word) (row : Advanced) (clear : noData w ≡ 0) (no-tdt : eqb (idO
 
 -- A data word leads from the three-way state to IHW_, taken as a guessed DDW0; a TDH leads to DATA_.
 data-goes : (w : Word) → DataClear w → (state : State) → nextState state w ≡ onward S.Ihw state
-data-goes w d = goes w (guess K.Ddw0 S.Ihw) (d .clear) (other tdtId refl) (simp (other tdhId refl, other ddw0Id refl, other ihwId refl))
+data-goes w d = goes w (guess K.Ddw0 S.Ihw) (d .clear) (other tdtId refl)
+    (simp (other tdhId refl, other ddw0Id refl, other ihwId refl))
   where
     other : (id : ℕ) → isDataId id ≡ false → eqb (idOf w) id ≡ false
     other id e = ne-eqb (idOf w) id (λ q. true≢false (sym (d .data-id) ∙ ap isDataId q ∙ e))
@@ -120,9 +122,12 @@ marker-closes (short-frame {h = h} {a = a} {d = d} th da t) =
 
 -- There a TDT with packet done is taken as TDT, and leads to the three-way state.
 pub closes : (state : State) (d : Word) → AmongData state → TdtDone d → advanceOf state d ≡ taken K.Tdt S.Three
-closes state d among t = ⊎-elim (λ e. rw e (simp (eq-eqb _ _ (t .tdt-id), t .done))) (λ e. rw e (simp (eq-eqb _ _ (t .tdt-id), t .done))) among
+closes state d among t =
+    ⊎-elim (λ e. rw e (simp (eq-eqb _ _ (t .tdt-id), t .done)))
+    (λ e. rw e (simp (eq-eqb _ _ (t .tdt-id), t .done))) among
 
-pub after-append : (state : State) (xs ys : List Word) → stateAfter state (xs ++ ys) ≡ stateAfter (stateAfter state xs) ys
+pub after-append : (state : State) (xs ys : List Word)
+    → stateAfter state (xs ++ ys) ≡ stateAfter (stateAfter state xs) ys
 unfolding stateAfter
 after-append state [] ys = refl
 after-append state (x ∷ xs) ys = after-append _ xs ys
@@ -131,7 +136,8 @@ close-settles : {words : List Word} → Closes words → (state : State) → sta
 unfolding stateAfter
 close-settles c state =
     let front = stateAfter state (c .front) in
-    ap (stateAfter state) (c .is) ∙ after-append state (c .front) (c .last ∷ []) ∙ ap stateOf (closes front (c .last) (c .among state) (c .done))
+    ap (stateAfter state) (c .is) ∙ after-append state (c .front) (c .last ∷ [])
+    ∙ ap stateOf (closes front (c .last) (c .among state) (c .done))
 
 -- "bring every state to the three-way state": either marker.
 pub marker-settles : (words : List Word) → Marker words → (state : State) → stateAfter state words ≡ S.Three
@@ -145,15 +151,19 @@ NoTdt (w ∷ ws) = (eqb (idOf w) tdtId ≡ false) × NoTdt ws
 among-stays : (ws : List Word) → NoTdt ws → (state : State) → AmongData state → AmongData (stateAfter state ws)
 unfolding stateAfter
 among-stays [] none state among = among
-among-stays (w ∷ ws) (no-tdt, rest) state (inl e) = among-stays ws rest (nextState state w) (inl (rw e (stays w no-tdt S.Data)))
-among-stays (w ∷ ws) (no-tdt, rest) state (inr e) = among-stays ws rest (nextState state w) (inr (rw e (stays w no-tdt S.CData)))
+among-stays (w ∷ ws) (no-tdt, rest) state (inl e) =
+    among-stays ws rest (nextState state w) (inl (rw e (stays w no-tdt S.Data)))
+among-stays (w ∷ ws) (no-tdt, rest) state (inr e) =
+    among-stays ws rest (nextState state w) (inr (rw e (stays w no-tdt S.CData)))
 
-pub longer-frame-settles : (h a : Word) (more : List Word) (d : Word) → TdhClear h → DataClear a → NoTdt more → TdtDone d
+pub longer-frame-settles : (h a : Word) (more : List Word) (d : Word) → TdhClear h → DataClear a → NoTdt more
+    → TdtDone d
     → (state : State) → stateAfter state (h ∷ a ∷ (more ++ (d ∷ []))) ≡ S.Three
 unfolding stateAfter marker-closes
 longer-frame-settles h a more d th da no-tdt t =
     let short = marker-closes (short-frame th da t) in
-    let among : (state : State) → AmongData (stateAfter state (h ∷ a ∷ more)) = λ state. among-stays more no-tdt _ (short .among state) in
+    let among : (state : State) → AmongData (stateAfter state (h ∷ a ∷ more)) =
+    λ state. among-stays more no-tdt _ (short .among state) in
     close-settles (record { front = h ∷ a ∷ more; last = d; is = refl; among = among; done = t })
 
 -- "no two words bring all seven states to any common one": c_IHW_ leads over c_TDH_ to c_DATA_, whatever the two words are, and IHW_ over TDH_ to
@@ -176,20 +186,24 @@ no-two-words a b common all =
     true≢false (ap isCData (from-c-ihw ∙ sym from-ihw) ∙ other)
 
 -- Of the short frame each condition is needed: where one fails and all others hold, three steps lead some state elsewhere.
-steps : {x y z : State} (s : State) (a b c : Word) → nextState s a ≡ x → nextState x b ≡ y → nextState y c ≡ z → stateAfter s (a ∷ b ∷ c ∷ []) ≡ z
+steps : {x y z : State} (s : State) (a b c : Word) → nextState s a ≡ x → nextState x b ≡ y → nextState y c ≡ z
+    → stateAfter s (a ∷ b ∷ c ∷ []) ≡ z
 unfolding stateAfter
 steps s a b c p q r = rw (p, q) r
 
 -- A data word in place of the TDH, so that two data words and a TDT are no marker: in the end the TDT is taken as a TDH.
-pub two-are-few : (a b d : Word) → DataClear a → DataClear b → TdtDone d → noData d ≡ 0 → stateAfter S.Three (a ∷ b ∷ d ∷ []) ≡ S.Data
-two-are-few a b d da db t clear = steps S.Three a b d (data-goes a da S.Three) (data-goes b db S.Ihw) (simp (eq-eqb _ _ clear))
+pub two-are-few : (a b d : Word) → DataClear a → DataClear b → TdtDone d → noData d ≡ 0
+    → stateAfter S.Three (a ∷ b ∷ d ∷ []) ≡ S.Data
+two-are-few a b d da db t clear =
+    steps S.Three a b d (data-goes a da S.Three) (data-goes b db S.Ihw) (simp (eq-eqb _ _ clear))
 
 -- A word with bit 13 set that is taken as a TDH.
 to-three : (w : Word) → noData w ≡ 1 → afterTdh w ≡ S.Three
 to-three w set = simp (ap (λ (n : ℕ). eqb n 0) set)
 
 -- A TDH with bit 13 set: the three-way state stays, and there the data word is taken as a guessed DDW0.
-pub tdh-not-clear : (h a d : Word) → idOf h ≡ tdhId → noData h ≡ 1 → DataClear a → TdtDone d → stateAfter S.Three (h ∷ a ∷ d ∷ []) ≡ S.Tdh
+pub tdh-not-clear : (h a d : Word) → idOf h ≡ tdhId → noData h ≡ 1 → DataClear a → TdtDone d
+    → stateAfter S.Three (h ∷ a ∷ d ∷ []) ≡ S.Tdh
 tdh-not-clear h a d id set da t =
     let first : inThree h ≡ taken K.TdhAfterPacketDone (afterTdh h) = simp (eq-eqb _ _ id) in
     steps S.Three h a d (ap stateOf first ∙ to-three h set) (data-goes a da S.Three) refl
@@ -202,20 +216,25 @@ tdt-in-three d id = simp (other tdhId refl, other ddw0Id refl, other ihwId refl)
     other n e = ap (λ (x : ℕ). eqb x n) id ∙ e
 
 -- A TDT in place of the data word: it leads to the three-way state, and the TDT after it onward.
-pub no-data-word : (h a d : Word) → TdhClear h → TdtDone a → noData a ≡ 0 → TdtDone d → stateAfter S.Data (h ∷ a ∷ d ∷ []) ≡ S.Ihw
+pub no-data-word : (h a d : Word) → TdhClear h → TdtDone a → noData a ≡ 0 → TdtDone d
+    → stateAfter S.Data (h ∷ a ∷ d ∷ []) ≡ S.Ihw
 no-data-word h a d th ta clear t =
-    steps S.Data h a d (tdh-goes h th S.Data) (ap stateOf (closes S.Data a (inl refl) ta)) (ap stateOf (tdt-in-three d (t .tdt-id)))
+    steps S.Data h a d (tdh-goes h th S.Data) (ap stateOf (closes S.Data a (inl refl) ta))
+    (ap stateOf (tdt-in-three d (t .tdt-id)))
 
 -- A data word with bit 13 set: taken as a TDH it leads to the three-way state, and the TDT after it onward.
-pub data-not-clear : (h a d : Word) → TdhClear h → isDataId (idOf a) ≡ true → noData a ≡ 1 → TdtDone d → stateAfter S.Ihw (h ∷ a ∷ d ∷ []) ≡ S.Ihw
+pub data-not-clear : (h a d : Word) → TdhClear h → isDataId (idOf a) ≡ true → noData a ≡ 1 → TdtDone d
+    → stateAfter S.Ihw (h ∷ a ∷ d ∷ []) ≡ S.Ihw
 data-not-clear h a d th id set t = steps S.Ihw h a d refl (to-three a set) (ap stateOf (tdt-in-three d (t .tdt-id)))
 
 -- A data word in place of the TDT.
-pub no-tdt : (h a d : Word) → TdhClear h → DataClear a → DataClear d → packetDone d ≡ true → stateAfter S.Ihw (h ∷ a ∷ d ∷ []) ≡ S.Data
+pub no-tdt : (h a d : Word) → TdhClear h → DataClear a → DataClear d → packetDone d ≡ true
+    → stateAfter S.Ihw (h ∷ a ∷ d ∷ []) ≡ S.Data
 no-tdt h a d th da dd done = steps S.Ihw h a d refl (data-goes a da S.Tdh) (data-goes d dd S.Data)
 
 -- A TDT without packet done.
-pub tdt-not-done : (h a d : Word) → TdhClear h → DataClear a → idOf d ≡ tdtId → packetDone d ≡ false → stateAfter S.Ihw (h ∷ a ∷ d ∷ []) ≡ S.CIhw
+pub tdt-not-done : (h a d : Word) → TdhClear h → DataClear a → idOf d ≡ tdtId → packetDone d ≡ false
+    → stateAfter S.Ihw (h ∷ a ∷ d ∷ []) ≡ S.CIhw
 tdt-not-done h a d th da id not-done =
     let split : inData S.Data d ≡ taken K.Tdt S.CIhw = simp (eq-eqb _ _ id, not-done) in
     steps S.Ihw h a d refl (data-goes a da S.Tdh) (ap stateOf split)

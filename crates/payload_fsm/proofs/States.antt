@@ -36,11 +36,14 @@ abbrev Else : Advanced → Type 0
 Else a = isInitial (a .word) ≡ false
 
 -- A word is taken as kind IHW in the three-way state, or else in the start state.
-pub start-or-three : (state : State) (w : Word) → advanceOf state w .word ≡ K.Ihw → isThree state ≡ false → state ≡ S.Ihw
+pub start-or-three : (state : State) (w : Word) → advanceOf state w .word ≡ K.Ihw → isThree state ≡ false
+    → state ≡ S.Ihw
 start-or-three S.Ihw w e n = refl
 start-or-three S.Tdh w e n = absurd (true≢false (sym (ap isInitial e)))
-start-or-three S.Data w e n = absurd (true≢false (sym (ap isInitial e) ∙ data-rows Else w S.Data refl refl refl refl refl))
-start-or-three S.CData w e n = absurd (true≢false (sym (ap isInitial e) ∙ data-rows Else w S.CData refl refl refl refl refl))
+start-or-three S.Data w e n =
+    absurd (true≢false (sym (ap isInitial e) ∙ data-rows Else w S.Data refl refl refl refl refl))
+start-or-three S.CData w e n =
+    absurd (true≢false (sym (ap isInitial e) ∙ data-rows Else w S.CData refl refl refl refl refl))
 start-or-three S.Three w e n = absurd (true≢false n)
 start-or-three S.CIhw w e n = absurd (true≢false (sym (ap isInitial e)))
 start-or-three S.CTdh w e n = absurd (true≢false (sym (ap isInitial e)))

@@ -7,5 +7,6 @@ use Rattle.payload_fsm.specs.declared.State.{State}
 use Rattle.payload_fsm.specs.declared.Advanced.{Advanced}
 use Rattle.payload_fsm.specs.Step.{advanceOf}
 
-pub advance-unique : (state : State) (w : Word) {first second : Advanced} → first ≡ advanceOf state w → second ≡ advanceOf state w → first ≡ second
+pub advance-unique : (state : State) (w : Word) {first second : Advanced} → first ≡ advanceOf state w
+    → second ≡ advanceOf state w → first ≡ second
 advance-unique state w = unique

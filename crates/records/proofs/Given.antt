@@ -19,14 +19,16 @@ one position row = cond (row .on) (recordAt position row ∷ []) []
 pub counted : (position : ℕ) (rows : List Row) → length (given position rows) ≡ count rows
 unfolding given count
 counted position [] = refl
-counted position (row ∷ rows) = length-append (one position row) (given position rows) ∙ (λ i. head (row .on) i + counted position rows i)
+counted position (row ∷ rows) =
+    length-append (one position row) (given position rows) ∙ (λ i. head (row .on) i + counted position rows i)
   where
     head : (on : Bool) → length (cond on (recordAt position row ∷ []) []) ≡ cond on 1 0
     head true = refl
     head false = refl
 
 -- What holds of the record of each row whose condition holds, holds of each record that is given.
-pub given-each : (P : Record → Type 0) (position : ℕ) (rows : List Row) → Each (λ row. row .on ≡ true → P (recordAt position row)) rows
+pub given-each : (P : Record → Type 0) (position : ℕ) (rows : List Row)
+    → Each (λ row. row .on ≡ true → P (recordAt position row)) rows
     → Each P (given position rows)
 unfolding given
 given-each P position [] e = e
@@ -42,17 +44,20 @@ pub each-so : {A : Type 0} {P Q : A → Type 0} → ((x : A) → P x → Q x) �
 each-so f [] e = e
 each-so f (x ∷ xs) e = (f x (e .0), each-so f xs (e .1))
 
-pub given-append : (position : ℕ) (xs ys : List Row) → given position (xs ++ ys) ≡ given position xs ++ given position ys
+pub given-append : (position : ℕ) (xs ys : List Row)
+    → given position (xs ++ ys) ≡ given position xs ++ given position ys
 unfolding given
 given-append position [] ys = refl
 given-append position (x ∷ xs) ys =
-    ap (λ (l : List Record). one position x ++ l) (given-append position xs ys) ∙ sym (append-assoc (one position x) (given position xs)
+    ap (λ (l : List Record). one position x ++ l) (given-append position xs ys)
+    ∙ sym (append-assoc (one position x) (given position xs)
     (given position ys))
 
 pub flat-append : (xs ys : List Record) → flat (xs ++ ys) ≡ flat xs ++ flat ys
 unfolding flat
 flat-append [] ys = refl
-flat-append (x ∷ xs) ys = ap (λ (l : List ℕ). numbers x ++ l) (flat-append xs ys) ∙ sym (append-assoc (numbers x) (flat xs) (flat ys))
+flat-append (x ∷ xs) ys =
+    ap (λ (l : List ℕ). numbers x ++ l) (flat-append xs ys) ∙ sym (append-assoc (numbers x) (flat xs) (flat ys))
 
 pub length-flat : (rs : List Record) → length (flat rs) ≡ recordWidth * length rs
 unfolding flat
@@ -64,27 +69,33 @@ pub given-more : (position : ℕ) (rows : List Row) (i : ℕ) (d : Row) → i < 
     → given position (take (i + 1) rows) ≡ given position (take i rows) ++ one position (getD rows i d)
 unfolding given
 given-more position rows i d h =
-    rw (add-one, take-suc rows i d, given-append) (ap (λ (l : List Record). given position (take i rows) ++ l) (append-nil (one position (getD rows i d))))
+    rw (add-one, take-suc rows i d, given-append)
+    (ap (λ (l : List Record). given position (take i rows) ++ l) (append-nil (one position (getD rows i d))))
 
 count-append : (xs ys : List Row) → count (xs ++ ys) ≡ count xs + count ys
 unfolding count
 count-append [] ys = sym (zero-add (count ys))
-count-append (x ∷ xs) ys = ap (λ (n : ℕ). cond (x .on) 1 0 + n) (count-append xs ys) ∙ sym (add-assoc (cond (x .on) 1 0) (count xs) (count ys))
+count-append (x ∷ xs) ys =
+    ap (λ (n : ℕ). cond (x .on) 1 0 + n) (count-append xs ys) ∙ sym (add-assoc (cond (x .on) 1 0) (count xs) (count ys))
 
-pub count-more : (rows : List Row) (i : ℕ) (d : Row) → i < length rows → count (take (i + 1) rows) ≡ count (take i rows) + cond (getD rows i d .on) 1 0
+pub count-more : (rows : List Row) (i : ℕ) (d : Row) → i < length rows
+    → count (take (i + 1) rows) ≡ count (take i rows) + cond (getD rows i d .on) 1 0
 unfolding count
 count-more rows i d h =
-    rw (add-one, take-suc rows i d, count-append) (ap (λ (n : ℕ). count (take i rows) + n) (add-zero (cond (getD rows i d .on) 1 0)))
+    rw (add-one, take-suc rows i d, count-append)
+    (ap (λ (n : ℕ). count (take i rows) + n) (add-zero (cond (getD rows i d .on) 1 0)))
 
 any-append : (xs ys : List Row) → anyOn (xs ++ ys) ≡ (anyOn xs || anyOn ys)
 unfolding anyOn
 any-append [] ys = refl
 any-append (x ∷ xs) ys = ap (λ (b : Bool). x .on || b) (any-append xs ys) ∙ sym (or-assoc (x .on) (anyOn xs) (anyOn ys))
 
-pub any-more : (rows : List Row) (i : ℕ) (d : Row) → i < length rows → anyOn (take (i + 1) rows) ≡ (anyOn (take i rows) || getD rows i d .on)
+pub any-more : (rows : List Row) (i : ℕ) (d : Row) → i < length rows
+    → anyOn (take (i + 1) rows) ≡ (anyOn (take i rows) || getD rows i d .on)
 unfolding anyOn
 any-more rows i d h =
-    rw (add-one, take-suc rows i d, any-append) (ap (λ (b : Bool). anyOn (take i rows) || b) (or-false (getD rows i d .on)))
+    rw (add-one, take-suc rows i d, any-append)
+    (ap (λ (b : Bool). anyOn (take i rows) || b) (or-false (getD rows i d .on)))
 
 -- No row's condition holds: there is no record.
 pub unheard : (position : ℕ) (rows : List Row) → silent rows ≡ true → given position rows ≡ []
@@ -105,7 +116,8 @@ empty position (suc n) = empty position n
 
 pub given-padded : (position : ℕ) (rows : List Row) → given position (padded rows) ≡ given position rows
 given-padded position rows =
-    given-append position rows (replicate (mostRecords - length rows) none) ∙ ap (λ (l : List Record). given position rows ++ l) (empty position
+    given-append position rows (replicate (mostRecords - length rows) none)
+    ∙ ap (λ (l : List Record). given position rows ++ l) (empty position
     (mostRecords - length rows)) ∙ append-nil (given position rows)
 
 -- Nor do they change whether there is one.

@@ -9,7 +9,8 @@ use Rattle.records.specs.declared.Row.{Row}
 use Rattle.records.specs.declared.Written.{Written}
 use Rattle.records.specs.Records.{padded, WritePost}
 
-pub rows-unique : (rows : List Row) {first second : List Row} → first ≡ padded rows → second ≡ padded rows → first ≡ second
+pub rows-unique : (rows : List Row) {first second : List Row} → first ≡ padded rows → second ≡ padded rows
+    → first ≡ second
 rows-unique rows = unique
 
 pub write-unique : {position : ℕ} {rows : List Row} {buffer after after′ : List ℕ} {first second : Written}

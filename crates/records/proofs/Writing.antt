@@ -23,9 +23,10 @@ pub record Going (position : ℕ) (rows : List Row) (out₀ out : List ℕ) (use
   pub same : length out ≡ length out₀
   pub fits : recordWidth * length (given position rows) ≤ length out₀
 
-pub start : (position : ℕ) (rows : List Row) (out : List ℕ) → recordWidth * length (given position rows) ≤ length out → Going position rows out out 0 0
+pub begins : (position : ℕ) (rows : List Row) (out : List ℕ) → recordWidth * length (given position rows) ≤ length out
+    → Going position rows out out 0 0
 unfolding given flat
-start position rows out h = record { passed = omega arith; used-is = refl; buffer-is = refl; same = refl; fits = h }
+begins position rows out h = record { passed = omega arith; used-is = refl; buffer-is = refl; same = refl; fits = h }
 
 -- The rows passed give no more records than all rows.
 prefix : (position : ℕ) (rows : List Row) (i : ℕ) → length (given position (take i rows)) ≤ length (given position rows)
@@ -34,9 +35,11 @@ prefix position rows i =
     ap (given position) (sym (take-append-drop i rows)) ∙ given-append position (take i rows) (drop i rows) in
     omega (arith, ap length whole, length-append (given position (take i rows)) (given position (drop i rows)))
 
-module _ {position : ℕ} {rows : List Row} {out₀ out : List ℕ} {used i : ℕ} (g : Going position rows out₀ out used i) (lt : i < length rows) where
+module _ {position : ℕ} {rows : List Row} {out₀ out : List ℕ} {used i : ℕ} (g : Going position rows out₀ out used i)
+    (lt : i < length rows) where
   -- A row that is off.
-  pub skip : {out′ : List ℕ} {used′ : ℕ} → getD rows i none .on ≡ false → out′ ≡ out → used′ ≡ used → Going position rows out₀ out′ used′ (i + 1)
+  pub skip : {out′ : List ℕ} {used′ : ℕ} → getD rows i none .on ≡ false → out′ ≡ out → used′ ≡ used
+      → Going position rows out₀ out′ used′ (i + 1)
   skip off p q =
       let same-given : given position (take (i + 1) rows) ≡ given position (take i rows) =
       given-more position rows i none lt ∙ simp off (append-nil (given position (take i rows))) in
@@ -49,22 +52,27 @@ module _ {position : ℕ} {rows : List Row} {out₀ out : List ℕ} {used i : �
       }
 
   module _ (on : getD rows i none .on ≡ true) where
-    longer : given position (take (i + 1) rows) ≡ given position (take i rows) ++ (recordAt position (getD rows i none) ∷ [])
+    longer : given position (take (i + 1) rows) ≡ given position
+        (take i rows) ++ (recordAt position (getD rows i none) ∷ [])
     longer = simp on at (given-more position rows i none lt)
 
-    longer-flat : flat (given position (take (i + 1) rows)) ≡ flat (given position (take i rows)) ++ numbers (recordAt position (getD rows i none))
+    longer-flat : flat (given position (take (i + 1) rows)) ≡ flat (given position (take i rows)) ++ numbers
+        (recordAt position (getD rows i none))
     unfolding flat
-    longer-flat = ap flat longer ∙ flat-append (given position (take i rows)) (recordAt position (getD rows i none) ∷ [])
+    longer-flat =
+        ap flat longer ∙ flat-append (given position (take i rows)) (recordAt position (getD rows i none) ∷ [])
 
     -- A row that is on has room.
     pub has-room : used + recordWidth ≤ length out
     has-room =
         let before = length-flat (given position (take i rows)) in
-        let step : length (given position (take (i + 1) rows)) ≡ length (given position (take i rows)) + 1 = ap length longer ∙ length-append (given position (take i rows)) (recordAt position (getD rows i none) ∷ []) in
+        let step : length (given position (take (i + 1) rows)) ≡ length (given position (take i rows)) + 1 =
+        ap length longer ∙ length-append (given position (take i rows)) (recordAt position (getD rows i none) ∷ []) in
         omega (arith, prefix position rows (i + 1), g .fits, g .same, g .used-is)
 
     -- Its record is written at the front of the tail that is lent.
-    pub more : {y out′ : List ℕ} {used′ : ℕ} → y ≡ over (numbers (recordAt position (getD rows i none))) (midOf used (length out - used) out)
+    pub more : {y out′ : List ℕ} {used′ : ℕ}
+        → y ≡ over (numbers (recordAt position (getD rows i none))) (midOf used (length out - used) out)
         → out′ ≡ putMid used (length out - used) out y
         → used′ ≡ used + recordWidth
         → Going position rows out₀ out′ used′ (i + 1)
@@ -73,12 +81,15 @@ module _ {position : ℕ} {rows : List Row} {out₀ out : List ℕ} {used i : �
         let here = numbers (recordAt position (getD rows i none)) in
         let long = ap length longer-flat ∙ length-append (flat was) here in
         let is : _ ≡ over (flat (given position (take (i + 1) rows))) out₀ =
-        p ∙ lent-on used (flat was) here out₀ out y (g .used-is) (g .buffer-is) e ∙ ap (λ (l : List ℕ). over l out₀) (sym longer-flat) in
+        p ∙ lent-on used (flat was) here out₀ out y (g .used-is) (g .buffer-is) e
+        ∙ ap (λ (l : List ℕ). over l out₀) (sym longer-flat) in
         record {
           passed = omega arith;
           used-is = omega (arith, g .used-is, q, long);
           buffer-is = is;
-          same = ap length is ∙ length-over (flat (given position (take (i + 1) rows))) out₀ (omega (arith, long, has-room, g .used-is, g .same));
+          same =
+              ap length is ∙ length-over (flat (given position (take (i + 1) rows))) out₀
+              (omega (arith, long, has-room, g .used-is, g .same));
           fits = g .fits;
         }
 
@@ -87,13 +98,15 @@ pub tail-long : (a n : ℕ) (d : List ℕ) → a + n ≤ length d → n ≤ leng
 tail-long a n d h = rw (mid-tail a d) (simp length-drop (omega arith))
 
 -- The records exceed the room: the buffer stays.
-pub refused : (position : ℕ) (rows : List Row) (out : List ℕ) → length out / recordWidth < count rows → WritePost position rows out NoRoom out
+pub refused : (position : ℕ) (rows : List Row) (out : List ℕ) → length out / recordWidth < count rows
+    → WritePost position rows out NoRoom out
 refused position rows out h =
     let e = lt-ltb (room out) (length (given position rows)) (omega (arith, counted position rows)) in
     record { answer = simp e; number = simp e; value = simp e; buffer-is = simp e }
 
 -- After all rows.
-pub written : (position : ℕ) (rows : List Row) (out₀ out : List ℕ) (used i n : ℕ) → Going position rows out₀ out used i → length rows ≤ i → n ≡ count rows
+pub written : (position : ℕ) (rows : List Row) (out₀ out : List ℕ) (used i n : ℕ) → Going position rows out₀ out used i
+    → length rows ≤ i → n ≡ count rows
     → count rows ≤ length out₀ / recordWidth → WritePost position rows out₀ (Records n) out
 written position rows out₀ out used i n g le e h =
     let c = counted position rows in
@@ -102,5 +115,6 @@ written position rows out₀ out used i n g le e h =
       answer = simp fits (ap Records (e ∙ sym c));
       number = simp fits;
       value = simp fits (e ∙ sym c);
-      buffer-is = simp fits (g .buffer-is ∙ ap (λ (l : List Row). over (flat (given position l)) out₀) (take-all i rows le));
+      buffer-is =
+          simp fits (g .buffer-is ∙ ap (λ (l : List Row). over (flat (given position l)) out₀) (take-all i rows le));
     }

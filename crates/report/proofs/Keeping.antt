@@ -46,10 +46,13 @@ good-word : (t : Tracker) (bytes : List ℕ) → Good t → Good (wordAnswer t (
 unfolding takenOf
 good-word t bytes g = at (wordCall t bytes mostRecords) refl
   where
-    at : (o : Outcome) → wordCall t bytes mostRecords ≡ o → Good (wordAnswer t o .tracker) × (length (recordsIn o) ≤ mostRecords)
+    at : (o : Outcome) → wordCall t bytes mostRecords ≡ o → Good (wordAnswer t o .tracker)
+        × (length (recordsIn o) ≤ mostRecords)
     at (taken x) e =
-        let a = taken-admitted t bytes mostRecords e in
-        (rw (next-is t bytes mostRecords e) (good-next t (wordOf bytes) g (a .accepted) (a .low)), omega (arith, ap length (records-are t bytes mostRecords e), few-records t (wordOf bytes)))
+        let a = taken-admitted t bytes mostRecords e in (
+          rw (next-is t bytes mostRecords e) (good-next t (wordOf bytes) g (a .accepted) (a .low)),
+          omega (arith, ap length (records-are t bytes mostRecords e), few-records t (wordOf bytes)),
+        )
     at (refused n) e = (g, omega arith)
 
 -- The text that is still to be printed.
@@ -92,13 +95,15 @@ module _ (file : List ℕ) where
   all-done r g = record { tracker = g; going = λ h. absurd (true≢false (sym h)) }
 
   -- The step by what the reader found.
-  item : (r : Report) → Good (r .tracker) → GoodReading file r → (x : Found) → nextFound file (r .packet) (r .word) (r .left) ≡ x
+  item : (r : Report) → Good (r .tracker) → GoodReading file r → (x : Found)
+      → nextFound file (r .packet) (r .word) (r .left) ≡ x
       → Moved (atStage S.Items r) (itemStep file r x)
   unfolding restOf stepsLeft recordsFrom lines
   item r g reads (F.Packet p words) e =
       let given = packet-given (sound file (reads .checked)) (reads .place) e in
       record {
-        good = record { tracker = good-packet (r .tracker) p g; going = λ _. record { checked = reads .checked; place = given .next; count = reads .count } };
+        good =
+            record { tracker = good-packet (r .tracker) p g; going = λ _. record { checked = reads .checked; place = given .next; count = reads .count } };
         front = rw (given .comes);
         less = λ _. omega (arith, ap length (given .comes));
       }
@@ -106,7 +111,8 @@ module _ (file : List ℕ) where
       let given = word-given (sound file (reads .checked)) (reads .place) e in
       let kept = good-word (r .tracker) (bytesAt file at) g in
       record {
-        good = record { tracker = kept .0; going = λ _. record { checked = reads .checked; place = given .next; count = rw (given .one-on) (omega arith) } };
+        good =
+            record { tracker = kept .0; going = λ _. record { checked = reads .checked; place = given .next; count = rw (given .one-on) (omega arith) } };
         front = simp (given .comes, lines-append, length-append, append-assoc, add-assoc);
         less = λ _. omega (arith, ap length (given .comes));
       }
@@ -120,12 +126,14 @@ module _ (file : List ℕ) where
   stage S.Heading r g =
       let reads = g .going refl in
       record {
-        good = record { tracker = g .tracker; going = λ _. record { checked = reads .checked; place = reads .place; count = reads .count } };
+        good =
+            record { tracker = g .tracker; going = λ _. record { checked = reads .checked; place = reads .place; count = reads .count } };
         front = refl;
         less = λ _. omega arith;
       }
   stage S.Items r g = item (atStage S.Items r) (g .tracker) (g .going refl) _ refl
-  stage (S.Refused n) r g = record { good = all-done r (g .tracker); front = append-nil (refusedLine n); less = λ _. omega arith }
+  stage (S.Refused n) r g =
+      record { good = all-done r (g .tracker); front = append-nil (refusedLine n); less = λ _. omega arith }
   stage S.Done r g = record { good = g; front = refl; less = λ e. absurd (true≢false e) }
 
   pub laws : Laws (printer file) (restOf file) (stepsLeft file)

@@ -16,7 +16,8 @@ use Rattle.report.specs.Text.{line, lines, firstRecord, recordsAt}
 pub lines-append : (xs ys : List Record) → lines (xs ++ ys) ≡ lines xs ++ lines ys
 unfolding lines
 lines-append [] ys = refl
-lines-append (x ∷ xs) ys = ap (λ (l : List ℕ). line x ++ l) (lines-append xs ys) ∙ sym (append-assoc (line x) (lines xs) (lines ys))
+lines-append (x ∷ xs) ys =
+    ap (λ (l : List ℕ). line x ++ l) (lines-append xs ys) ∙ sym (append-assoc (line x) (lines xs) (lines ys))
 
 -- The record whose numbers stand from a place on.
 abbrev pub recordFrom : List ℕ → ℕ → Record
@@ -27,7 +28,8 @@ records-more : (i : ℕ) (d : List ℕ) → recordsAt (suc i) d ≡ recordsAt i 
 unfolding recordsAt
 records-more zero d = refl
 records-more (suc i) d =
-    ap (λ (l : List Record). firstRecord d ∷ l) (records-more i (drop recordWidth d) ∙ ap (λ (r : Record). recordsAt i (drop recordWidth d) ++ (r ∷ [])) here)
+    ap (λ (l : List Record). firstRecord d ∷ l)
+    (records-more i (drop recordWidth d) ∙ ap (λ (r : Record). recordsAt i (drop recordWidth d) ++ (r ∷ [])) here)
   where
     at : (k j : ℕ) → recordWidth + k ≡ j → getD (drop recordWidth d) k 0 ≡ getD d j 0
     at k j e = getD-drop recordWidth d k 0 ∙ ap (λ (n : ℕ). getD d n 0) e
@@ -41,12 +43,14 @@ records-more (suc i) d =
           second = at (recordWidth * i + 3) (recordWidth * suc i + 3) (omega arith) j;
         }
 
-lines-more : (i : ℕ) (d : List ℕ) → lines (recordsAt i d) ++ line (recordFrom d (recordWidth * i)) ≡ lines (recordsAt (i + 1) d)
+lines-more : (i : ℕ) (d : List ℕ) → lines (recordsAt i d) ++ line (recordFrom d (recordWidth * i)) ≡ lines
+    (recordsAt (i + 1) d)
 unfolding lines
 lines-more i d =
     let r = recordFrom d (recordWidth * i) in
     sym
-    (ap (λ (n : ℕ). lines (recordsAt n d)) (add-one i) ∙ ap lines (records-more i d) ∙ lines-append (recordsAt i d) (r ∷ [])
+    (ap (λ (n : ℕ). lines (recordsAt n d)) (add-one i) ∙ ap lines (records-more i d)
+    ∙ lines-append (recordsAt i d) (r ∷ [])
     ∙ ap (λ (l : List ℕ). lines (recordsAt i d) ++ l) (append-nil (line r)))
 
 -- The line of the next record behind the lines of those before it.

@@ -22,7 +22,8 @@ use Rattle.report.proofs.Steps.{good-start}
 use Rattle.report.proofs.Keeping.{restOf, stepsLeft, laws}
 
 -- For who calls `step`: with room for a word's lines fewer steps are left.
-pub step-onward : {file : List ℕ} {r next : Report} {d d′ : List ℕ} {n : ℕ} → StepPost (printer file) r d next n d′ → GoodReport file r
+pub step-onward : {file : List ℕ} {r next : Report} {d d′ : List ℕ} {n : ℕ} → StepPost (printer file) r d next n d′
+    → GoodReport file r
     → isDone (r .stage) ≡ false
     → mostPrinted ≤ length d
     → stepsLeft file next < stepsLeft file r
@@ -30,7 +31,8 @@ step-onward {file} f g e h = onward (laws file) f g h e
 
 -- At the start the whole text is to be printed, in at most as many steps as the file has packets, words and two.
 abbrev AllLeft : List ℕ → Type 0
-AllLeft file = (restOf file (startReport file) ≡ text file) × (stepsLeft file (startReport file) ≤ length (items file) + 2)
+AllLeft file =
+    (restOf file (startReport file) ≡ text file) × (stepsLeft file (startReport file) ≤ length (items file) + 2)
 
 start-left : (file : List ℕ) → AllLeft file
 unfolding restOf stepsLeft startReport text fileRecords

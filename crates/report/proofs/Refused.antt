@@ -30,33 +30,39 @@ record Takes (t : Tracker) (left : ℕ) : Type 0 where
   accepted : 1 ≤ left → t .accepted ≡ true
   room : t .at .count + left ≤ 4096
 
-packet-accepted : (t : Tracker) (p : Packet) → inRange p ≡ true → (packetCall t p .refusal ≡ 0) × (packetCall t p .tracker ≡ acceptOf t p)
+packet-accepted : (t : Tracker) (p : Packet) → inRange p ≡ true → (packetCall t p .refusal ≡ 0)
+    × (packetCall t p .tracker ≡ acceptOf t p)
 unfolding packetCall
 packet-accepted t p e = (simp e, simp e)
 
 word-taken : (t : Tracker) (left : ℕ) (bytes : List ℕ) → Takes t (suc left) → length bytes ≡ 10
-    → (wordCall t bytes mostRecords ≡ takenOf t (wordOf bytes)) × Takes (wordAnswer t (wordCall t bytes mostRecords) .tracker) left
+    → (wordCall t bytes mostRecords ≡ takenOf t (wordOf bytes))
+    × Takes (wordAnswer t (wordCall t bytes mostRecords) .tracker) left
 unfolding takenOf
 word-taken t left bytes h ten =
     let have = h .accepted (omega arith) in
     let room = h .room in
     let e : wordCall t bytes mostRecords ≡ takenOf t (wordOf bytes) =
     admitted-taken t bytes mostRecords (record { ten = ten; accepted = have; low = omega arith; fits = le-ltb mostRecords _ (few-records t (wordOf bytes)) }) in
-    let next : wordAnswer t (wordCall t bytes mostRecords) .tracker ≡ afterWord t (takenAs t (wordOf bytes)) (wordOf bytes) = ap (λ (o : Outcome). wordAnswer t o .tracker) e in
+    let next : wordAnswer t (wordCall t bytes mostRecords) .tracker ≡ afterWord t (takenAs t (wordOf bytes))
+    (wordOf bytes) = ap (λ (o : Outcome). wordAnswer t o .tracker) e in
     (e, subst (λ (u : Tracker). Takes u left) (sym next) (record { accepted = λ _. have; room = omega arith }))
 
 module _ (bytes : RefT (List ℕ)) (s : Sound (now bytes)) where
   ten : (at : ℕ) → at + 10 ≤ length (now bytes) → length (bytesAt (now bytes) at) ≡ 10
   ten at h = length-take-le 10 (drop at (now bytes)) (simp length-drop (omega arith))
 
-  all-accepted : {i n left : ℕ} {l : List Item} → Gives (readerAt bytes i n) left l → Place (now bytes) i n left → (t : Tracker) → Takes t left
+  all-accepted : {i n left : ℕ} {l : List Item} → Gives (readerAt bytes i n) left l → Place (now bytes) i n left
+      → (t : Tracker) → Takes t left
       → AllAccepted t l
   unfolding AllAccepted
   all-accepted (end e) place t h = tt
   all-accepted (packet-first {p = p} {count = count} e rest) place t h =
       let given = packet-given s place e in
       let a = packet-accepted t p (given .in-range) in
-      let next : Takes (packetCall t p .tracker) count = subst (λ (u : Tracker). Takes u count) (sym (a .1)) (record { accepted = λ _. refl; room = omega (arith, given .few) }) in
+      let next : Takes (packetCall t p .tracker) count =
+      subst (λ (u : Tracker). Takes u count) (sym (a .1))
+      (record { accepted = λ _. refl; room = omega (arith, given .few) }) in
       (a .0, all-accepted rest (given .next) (packetCall t p .tracker) next)
   all-accepted {i} {n} (then-word {left = left} {at = at} e rest) place t h =
       let given = word-given s place (asks-word (now bytes) i n left ∙ e) in

@@ -52,13 +52,15 @@ good-start file =
 abbrev newReport : Stage → Tracker → Report
 newReport stage t = record { stage = stage; tracker = t; packet = 0; word = 0; left = 0; count = 0 }
 
-pub started : (file : List ℕ) {n : ℕ} {stage : Stage} {t : Tracker} → n ≡ checkOf file → stage ≡ firstStage n → t ≡ startOf settings
+pub started : (file : List ℕ) {n : ℕ} {stage : Stage} {t : Tracker} → n ≡ checkOf file → stage ≡ firstStage n
+    → t ≡ startOf settings
     → (newReport stage t ≡ startReport file) × GoodReport file (newReport stage t)
 unfolding startReport
 started file p q h = (rw (q, p, h), rw (q, p, h) (good-start file))
 
 -- A word's records, as its call told them and left them in the buffer.
-module _ (t : Tracker) (bytes : List ℕ) {zeros after : List ℕ} {a : WordAnswer} (w : WordPost t bytes zeros a after) (n : length zeros ≡ mostRecords * recordWidth) where
+module _ (t : Tracker) (bytes : List ℕ) {zeros after : List ℕ} {a : WordAnswer} (w : WordPost t bytes zeros a after)
+    (n : length zeros ≡ mostRecords * recordWidth) where
   six : room zeros ≡ mostRecords
   six = omega arith
 
@@ -91,7 +93,8 @@ pub word-printed : (file : List ℕ) (r : Report) (at : ℕ) {zeros after d d′
     → on ≡ pastWord file (r .word)
     → given ≡ numbersOf (a .told) .records
     → Puts (lines (recordsAt given after)) d n d′
-    → Prints (itemStep file r (F.Word at)) d (record { stage = S.Items; tracker = a .tracker; packet = r .packet; word = on; left = r .left - 1; count = r .count + given }) n d′
+    → Prints (itemStep file r (F.Word at)) d
+    (record { stage = S.Items; tracker = a .tracker; packet = r .packet; word = on; left = r .left - 1; count = r .count + given }) n d′
 word-printed file r at {after = after} {given = given} w z o g p =
     let t = r .tracker in
     let bytes = bytesAt file at in
@@ -102,7 +105,8 @@ word-printed file r at {after = after} {given = given} w z o g p =
     }
 
 -- The part of a file that a word stands in.
-pub as-word : {t : Tracker} (file : List ℕ) (at : ℕ) {zeros after : List ℕ} {a : WordAnswer} → WordPost t (midOf at (at + 10 - at) file) zeros a after
+pub as-word : {t : Tracker} (file : List ℕ) (at : ℕ) {zeros after : List ℕ} {a : WordAnswer}
+    → WordPost t (midOf at (at + 10 - at) file) zeros a after
     → WordPost t (bytesAt file at) zeros a after
 as-word file at w =
     let ten : at + 10 - at ≡ 10 = omega arith in
@@ -110,7 +114,8 @@ as-word file at w =
 
 -- What the reader found, and what is to be counted on there.
 module _ {file : List ℕ} {r : Report} (g : GoodReading file r) where
-  pub good-word-at : {x : Found} {at : ℕ} → x ≡ nextFound file (r .packet) (r .word) (r .left) → x ≡ F.Word at → GoodWord file r at
+  pub good-word-at : {x : Found} {at : ℕ} → x ≡ nextFound file (r .packet) (r .word) (r .left)
+      → x ≡ F.Word at → GoodWord file r at
   good-word-at {x} {at} p q =
       let s = sound file (g .checked) in
       let given = word-given s (g .place) (sym p ∙ q) in
@@ -121,13 +126,15 @@ module _ {file : List ℕ} {r : Report} (g : GoodReading file r) where
         count-low = omega arith;
       }
 
-pub found : (file : List ℕ) (r : Report) {d d′ : List ℕ} {x y : Found} {next : Report} {n : ℕ} → x ≡ nextFound file (r .packet) (r .word) (r .left) → x ≡ y
+pub found : (file : List ℕ) (r : Report) {d d′ : List ℕ} {x y : Found} {next : Report} {n : ℕ}
+    → x ≡ nextFound file (r .packet) (r .word) (r .left) → x ≡ y
     → Prints (itemStep file r y) d next n d′
     → Prints (itemStep file r (nextFound file (r .packet) (r .word) (r .left))) d next n d′
 found file r e q s = rw (← e, q) s
 
 -- The step by the stage.
-pub staged : (file : List ℕ) (r : Report) {next : Report} {d d′ : List ℕ} {n : ℕ} {s : Stage} → r .stage ≡ s → Prints (stageStep file r s) d next n d′
+pub staged : (file : List ℕ) (r : Report) {next : Report} {d d′ : List ℕ} {n : ℕ} {s : Stage} → r .stage ≡ s
+    → Prints (stageStep file r s) d next n d′
     → Prints (stepOf file r) d next n d′
 unfolding stepOf
 staged file r {next} {d} {d′} {n} e p = subst (λ (z : Stage). Prints (stageStep file r z) d next n d′) (sym e) p

@@ -30,13 +30,18 @@ good-ihw : (kind : ItsPayloadWord) (w : Word) (old : StoredIhw) → GoodIhw old 
 good-ihw kind w old g = choice GoodIhw (isIhw kind) (record { lanes = bits-below 27 0 w; absent = λ e. clash e }) g
 
 good-tdh : (kind : ItsPayloadWord) (w : Word) (old : StoredTdh) → GoodTdh old → GoodTdh (nextTdh kind w old)
-good-tdh kind w old g = choice GoodTdh (isTdh kind) (record { trigger = bits-below 11 0 w; bc = bits-below 27 16 w; absent = λ e. clash e }) g
+good-tdh kind w old g =
+    choice GoodTdh (isTdh kind) (record { trigger = bits-below 11 0 w; bc = bits-below 27 16 w; absent = λ e. clash e })
+    g
 
-good-internal : (kind : ItsPayloadWord) (w : Word) (old : InternalTdh) → GoodInternal old → GoodInternal (nextInternal kind w old)
+good-internal : (kind : ItsPayloadWord) (w : Word) (old : InternalTdh) → GoodInternal old
+    → GoodInternal (nextInternal kind w old)
 good-internal kind w old g =
-    choice GoodInternal (isTdh kind && eqb (internalTrigger w) 1) (record { bc = bits-below 27 16 w; absent = λ e. clash e }) g
+    choice GoodInternal (isTdh kind && eqb (internalTrigger w) 1)
+    (record { bc = bits-below 27 16 w; absent = λ e. clash e }) g
 
-good-cdw : (kind : ItsPayloadWord) (seen : Bool) (w : Word) (old : StoredCdw) → GoodCdw old → GoodCdw (nextCdw kind seen w old)
+good-cdw : (kind : ItsPayloadWord) (seen : Bool) (w : Word) (old : StoredCdw) → GoodCdw old
+    → GoodCdw (nextCdw kind seen w old)
 good-cdw kind seen w old g =
     choice GoodCdw (isData kind && firstCdw seen w) (record { user = bits-below 47 0 w; absent = λ e. clash e }) g
 
@@ -50,7 +55,8 @@ good-none =
       cdw = record { user = omega arith; absent = λ _. refl };
     }
 
-pub good-stored : (kind : ItsPayloadWord) (seen : Bool) (w : Word) (old : Stored) → GoodStored old → GoodStored (nextStored kind seen w old)
+pub good-stored : (kind : ItsPayloadWord) (seen : Bool) (w : Word) (old : Stored) → GoodStored old
+    → GoodStored (nextStored kind seen w old)
 good-stored kind seen w old g =
     record {
       ihw = good-ihw kind w (old .ihw) (g .ihw);
@@ -60,11 +66,13 @@ good-stored kind seen w old g =
     }
 
 -- A frame opens with frames on alone.
-pub good-frame : (frames : Bool) (kind : ItsPayloadWord) (w : Word) (position : ℕ) (old : Frame) → position ≤ mostPosition → GoodFrame frames old
+pub good-frame : (frames : Bool) (kind : ItsPayloadWord) (w : Word) (position : ℕ) (old : Frame)
+    → position ≤ mostPosition → GoodFrame frames old
     → GoodFrame frames (nextFrame frames kind w position old)
 good-frame true kind w position old h g =
     choice (GoodFrame true) (opens true kind w old) (record { start = h; absent = λ e. clash e; off = λ e. clash e })
-    (choice (GoodFrame true) (closes true kind w) (record { start = omega arith; absent = λ _. refl; off = λ _. refl }) g)
+    (choice (GoodFrame true) (closes true kind w)
+    (record { start = omega arith; absent = λ _. refl; off = λ _. refl }) g)
 good-frame false kind w position old h g = simp and-false g
 
 -- What was taken is stored, and what was stored stays.
@@ -81,6 +89,7 @@ pub kept-tdh : (kind : ItsPayloadWord) (w : Word) (old : StoredTdh) (after : Boo
 kept-tdh kind w old after h e = at (isTdh kind) e
   where
     at : (b : Bool) → (b || after) ≡ true
-        → cond b (record { stored = true; trigger = triggerType w; bc = triggerBc w; orbit = triggerOrbit w }) old .stored ≡ true
+        → cond b (record { stored = true; trigger = triggerType w; bc = triggerBc w; orbit = triggerOrbit w })
+        old .stored ≡ true
     at true e = refl
     at false e = h e

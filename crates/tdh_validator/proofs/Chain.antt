@@ -40,7 +40,8 @@ further : (a b c x y : ℕ) → (a + x) % crossings ≡ b → (b + y) % crossing
 further a b c x y e f = omega arith
 
 joined : (a b c x y : ℕ) → IsPeriod a b x → IsPeriod b c y → IsPeriod a c ((x + y) % crossings)
-joined a b c x y p q = record { below = omega arith; meets = inside a (x + y) ∙ further a b c x y (p .meets) (q .meets) }
+joined a b c x y p q =
+    record { below = omega arith; meets = inside a (x + y) ∙ further a b c x y (p .meets) (q .meets) }
 
 -- "For three legal BCs, the interval from the first to the second plus the second to the third is, modulo 3,564, the interval from the first to
 -- the third."
@@ -55,7 +56,8 @@ zero-or-once n e h = at (eqb n 0) refl
     at true q = inl (eqb-true n 0 q)
     at false q = inr (let some : n ≡ 0 → ⊥ = eqb-false n 0 q in omega (arith, some))
 
-pub there-and-back : (a b : ℕ) → Legal a → Legal b → (period a b + period b a ≡ 0) ⊎ (period a b + period b a ≡ crossings)
+pub there-and-back : (a b : ℕ) → Legal a → Legal b → (period a b + period b a ≡ 0)
+    ⊎ (period a b + period b a ≡ crossings)
 there-and-back a b la lb =
     zero-or-once (period a b + period b a) (adds-up a b a la lb la ∙ equal-zero a a la la refl)
     (below (period a b) (period b a) (period-is a b la lb .below) (period-is b a lb la .below))
@@ -64,12 +66,14 @@ there-and-back a b la lb =
     below x y p q = omega arith
 
 -- Legal crossings, however many: the sum of their intervals, modulo 3564, is what 01 calls the period from the first to the last.
-pub sum-is : (first : ℕ) (rest : List ℕ) → Each Legal (first ∷ rest) → IsPeriod first (lastOf first rest) (intervals first rest % crossings)
+pub sum-is : (first : ℕ) (rest : List ℕ) → Each Legal (first ∷ rest)
+    → IsPeriod first (lastOf first rest) (intervals first rest % crossings)
 unfolding intervals lastOf
 sum-is first [] (l, _) = record { below = omega arith; meets = omega arith }
 sum-is first (bc ∷ rest) (l, ls) =
     subst (IsPeriod first (lastOf bc rest)) (inside (period first bc) (intervals bc rest))
-    (joined first bc (lastOf bc rest) (period first bc) (intervals bc rest % crossings) (period-is first bc l (ls .0)) (sum-is bc rest ls))
+    (joined first bc (lastOf bc rest) (period first bc) (intervals bc rest % crossings) (period-is first bc l (ls .0))
+    (sum-is bc rest ls))
 
 last-legal : (first : ℕ) (rest : List ℕ) → Each Legal (first ∷ rest) → Legal (lastOf first rest)
 unfolding lastOf
@@ -78,12 +82,15 @@ last-legal first (bc ∷ rest) (_, ls) = last-legal bc rest ls
 
 -- "for any chain of 1 to 4,096 BCs that its intervals add up, modulo 3,564, to the one from its first to its last, a chain of one to 0": as 01 words
 -- a period, and as the number that is found. How many they are is not used.
-pub chain-is : (first : ℕ) (rest : List ℕ) → Chain first rest → IsPeriod first (lastOf first rest) (intervals first rest % crossings)
+pub chain-is : (first : ℕ) (rest : List ℕ) → Chain first rest
+    → IsPeriod first (lastOf first rest) (intervals first rest % crossings)
 chain-is first rest chain = sum-is first rest (chain .legal)
 
-pub chain-adds-up : (first : ℕ) (rest : List ℕ) → Chain first rest → intervals first rest % crossings ≡ period first (lastOf first rest)
+pub chain-adds-up : (first : ℕ) (rest : List ℕ) → Chain first rest
+    → intervals first rest % crossings ≡ period first (lastOf first rest)
 chain-adds-up first rest chain =
-    period-only first (lastOf first rest) (chain .legal .0) (last-legal first rest (chain .legal)) _ (chain-is first rest chain)
+    period-only first (lastOf first rest) (chain .legal .0) (last-legal first rest (chain .legal)) _
+    (chain-is first rest chain)
 
 pub chain-of-one : (first : ℕ) → intervals first [] ≡ 0
 unfolding intervals
@@ -97,7 +104,8 @@ pub none-to-3564 : (first n : ℕ) → IsPeriod first 3564 n → ⊥
 none-to-3564 first n p = let reached = p .meets in omega (arith, reached)
 
 pub chain-false :
-    ((first : ℕ) (rest : List ℕ) → Each OneFurther (first ∷ rest) → IsPeriod first (lastOf first rest) (intervals first rest % crossings)) → ⊥
+    ((first : ℕ) (rest : List ℕ) → Each OneFurther (first ∷ rest)
+    → IsPeriod first (lastOf first rest) (intervals first rest % crossings)) → ⊥
 unfolding intervals lastOf
 chain-false law = none-to-3564 3366 _ (law 3366 (3564 ∷ []) (omega arith, (omega arith, tt)))
 

@@ -27,13 +27,15 @@ legal-both p c e = at (ltb maxBc p) (ltb maxBc c) refl refl e
 -- A row by what was worked out for it.
 abbrev rowOf : Bool → Bool → Bool → ℕ → ℕ → ℕ → ℕ → Row
 rowOf looked past back found previous current set =
-    when (looked && ((past || back) || differ found set)) (cond past 1045 (cond back 1046 45)) (cond (past || back) previous found) (cond (past || back) current set)
+    when (looked && ((past || back) || differ found set)) (cond past 1045 (cond back 1046 45))
+    (cond (past || back) previous found) (cond (past || back) current set)
 
 module _ (rule : Rule) (difference previous current : ℕ) where
   abbrev counted : Rule → ℕ
   counted r = cond (countsOrbits r) difference (cond (ltb current previous) 1 0)
 
-  back-counted : (r : Rule) → ranBack (counted r) previous current ≡ (countsOrbits r && ranBack difference previous current)
+  back-counted : (r : Rule) → ranBack (counted r) previous
+      current ≡ (countsOrbits r && ranBack difference previous current)
   back-counted R.One = over (ltb current previous) refl
     where
       over : (b : Bool) → ltb current previous ≡ b → ranBack (cond b 1 0) previous current ≡ false
@@ -41,7 +43,8 @@ module _ (rule : Rule) (difference previous current : ℕ) where
       over false e = e
   back-counted R.Two = refl
 
-  period-counted : Legal previous → Legal current → (r : Rule) → longPeriod (counted r) previous current ≡ foundBy r difference previous current
+  period-counted : Legal previous → Legal current → (r : Rule)
+      → longPeriod (counted r) previous current ≡ foundBy r difference previous current
   period-counted legal legal′ R.One = over (ltb current previous) refl
     where
       over : (b : Bool) → ltb current previous ≡ b → longPeriod (cond b 1 0) previous current ≡ period previous current
@@ -50,8 +53,10 @@ module _ (rule : Rule) (difference previous current : ℕ) where
   period-counted legal legal′ R.Two = refl
 
   -- What the code works out is the row.
-  pub row-counted : (looked : Bool) (set : ℕ) {orbits found : ℕ} {back : Bool} {row : Row} → orbits ≡ counted rule → back ≡ ranBack orbits previous current
-      → found ≡ longPeriod orbits previous current → row ≡ rowOf looked (illegal previous current) back found previous current set
+  pub row-counted : (looked : Bool) (set : ℕ) {orbits found : ℕ} {back : Bool} {row : Row} → orbits ≡ counted rule
+      → back ≡ ranBack orbits previous current
+      → found ≡ longPeriod orbits previous current
+      → row ≡ rowOf looked (illegal previous current) back found previous current set
       → row ≡ intervalRow looked rule difference previous current set
   row-counted looked set {orbits} {found} {back} e b f r = r ∙ at (illegal previous current) refl
     where
@@ -60,9 +65,11 @@ module _ (rule : Rule) (difference previous current : ℕ) where
 
       at : (past : Bool) → illegal previous current ≡ past
           → rowOf looked past back found previous current set
-          ≡ rowOf looked past (countsOrbits rule && ranBack difference previous current) (foundBy rule difference previous current) previous current set
+          ≡ rowOf looked past (countsOrbits rule && ranBack difference previous current)
+          (foundBy rule difference previous current) previous current set
       at true q = refl
       at false q =
           let (legal, legal′) = legal-both previous current q in
-          let found-is : found ≡ foundBy rule difference previous current = f ∙ (λ i. longPeriod (e i) previous current) ∙ period-counted legal legal′ rule in
+          let found-is : found ≡ foundBy rule difference previous current = f ∙ (λ i. longPeriod (e i) previous current)
+          ∙ period-counted legal legal′ rule in
           λ i. rowOf looked false (back-is i) (found-is i) previous current set

@@ -17,23 +17,27 @@ module _ (previous current : ℕ) (fits : previous < 2 ^ 32) (fits′ : current 
   difference-only n p = omega (arith, p .below, p .meets)
 
 -- Where time did not run back, the earlier crossing is not beyond the later one.
-pub onward : (difference previous current : ℕ) → Legal previous → ranBack difference previous current ≡ false → previous ≤ difference * crossings + current
+pub onward : (difference previous current : ℕ) → Legal previous → ranBack difference previous current ≡ false
+    → previous ≤ difference * crossings + current
 onward d p c legal e = at (leb (2 ^ 31) d) (eqb d 0) (ltb c p) refl refl e
   where
-    at : (far same less : Bool) → eqb d 0 ≡ same → ltb c p ≡ less → (far || (same && less)) ≡ false → p ≤ d * crossings + c
+    at : (far same less : Bool) → eqb d 0 ≡ same → ltb c p ≡ less → (far || (same && less)) ≡ false
+        → p ≤ d * crossings + c
     at far true false q r e = let h = ltb-false c p r in omega (arith, h)
     at far false less q r e = let h = eqb-false d 0 q in omega (arith, h)
     at true true true q r e = absurd (true≢false e)
     at false true true q r e = absurd (true≢false e)
 
 -- "where rule 2 gives a period, its remainder by 3,564 is rule 1's": between legal crossings, where time did not run back.
-pub remainder : (difference previous current : ℕ) → Legal previous → Legal current → ranBack difference previous current ≡ false
+pub remainder : (difference previous current : ℕ) → Legal previous → Legal current
+    → ranBack difference previous current ≡ false
     → longPeriod difference previous current % crossings ≡ period previous current
 remainder d p c legal legal′ e = let h = onward d p c legal e in omega (arith, h)
 
 -- Orbits counted without a bound, of which a TDH has the remainder by 2^32: of the later of two triggers, with fewer than 2^31 orbits from the one to the
 -- other, rule 2 finds the crossings from the first to the second, also where the orbit number turns over between them.
-module _ (o o′ p c : ℕ) (legal : Legal p) (legal′ : Legal c) (later : o * crossings + p ≤ o′ * crossings + c) (near : o′ < o + 2 ^ 31) where
+module _ (o o′ p c : ℕ) (legal : Legal p) (legal′ : Legal c) (later : o * crossings + p ≤ o′ * crossings + c)
+    (near : o′ < o + 2 ^ 31) where
   orbits-on : orbitDifference (o % 2 ^ 32) (o′ % 2 ^ 32) ≡ o′ - o
   orbits-on = omega arith
 
@@ -44,7 +48,8 @@ module _ (o o′ p c : ℕ) (legal : Legal p) (legal′ : Legal c) (later : o * 
       same true e = let z = eqb-true (o′ - o) 0 e in le-ltb c p (omega (arith, z))
       same false e = refl
 
-  pub counts-crossings : longPeriod (orbitDifference (o % 2 ^ 32) (o′ % 2 ^ 32)) p c ≡ (o′ * crossings + c) - (o * crossings + p)
+  pub counts-crossings : longPeriod (orbitDifference (o % 2 ^ 32) (o′ % 2 ^ 32)) p
+      c ≡ (o′ * crossings + c) - (o * crossings + p)
   counts-crossings = rw orbits-on (omega arith)
 
 -- Every third orbit; over the turn of the orbit number; the same crossing of the same orbit.

@@ -29,16 +29,22 @@ module _ (previous current : ℕ) (legal : Legal previous) (legal′ : Legal cur
 
 -- What a record tells of an interval that is looked at, between legal crossings and, by rule 2, where time did not run back: 45 gives it as its first
 -- number; without 45 it is the set period.
-pub found-told : (s : Settings) (earlier : InternalTdh) (w : Word) → Legal (earlier .bc) → Legal (triggerBc w) → asked s earlier w ≡ true
-    → (countsOrbits (s .rule) && ranBack (orbitDifference (earlier .orbit) (triggerOrbit w)) (earlier .bc) (triggerBc w)) ≡ false
+pub found-told : (s : Settings) (earlier : InternalTdh) (w : Word) → Legal (earlier .bc) → Legal (triggerBc w)
+    → asked s earlier w ≡ true
+    → (countsOrbits (s .rule) && ranBack (orbitDifference (earlier .orbit) (triggerOrbit w)) (earlier .bc)
+    (triggerBc w)) ≡ false
     → let found = foundBy (s .rule) (orbitDifference (earlier .orbit) (triggerOrbit w)) (earlier .bc) (triggerBc w) in
     interval s earlier w ≡ when (differ found (s .period)) 45 found (s .period)
 found-told s earlier w legal legal′ looked onward =
     simp (le-ltb maxBc (earlier .bc) legal, le-ltb maxBc (triggerBc w) legal′, looked, onward)
 
 -- By rule 1 that is the found period, whatever the orbits.
-pub period-told : (s : Settings) (earlier : InternalTdh) (w : Word) → s .rule ≡ R.One → Legal (earlier .bc) → Legal (triggerBc w) → asked s earlier w ≡ true
-    → interval s earlier w ≡ when (differ (period (earlier .bc) (triggerBc w)) (s .period)) 45 (period (earlier .bc) (triggerBc w)) (s .period)
+pub period-told : (s : Settings) (earlier : InternalTdh) (w : Word) → s .rule ≡ R.One → Legal (earlier .bc)
+    → Legal (triggerBc w) → asked s earlier w ≡ true
+    → interval s earlier w ≡ when (differ (period (earlier .bc) (triggerBc w)) (s .period)) 45
+    (period (earlier .bc) (triggerBc w)) (s .period)
 period-told s earlier w one legal legal′ looked =
-    let found : Rule → ℕ = λ r. foundBy r (orbitDifference (earlier .orbit) (triggerOrbit w)) (earlier .bc) (triggerBc w) in
-    found-told s earlier w legal legal′ looked (simp one) ∙ (λ i. when (differ (found (one i)) (s .period)) 45 (found (one i)) (s .period))
+    let found : Rule → ℕ = λ r. foundBy r (orbitDifference (earlier .orbit) (triggerOrbit w)) (earlier .bc)
+    (triggerBc w) in
+    found-told s earlier w legal legal′ looked (simp one)
+    ∙ (λ i. when (differ (found (one i)) (s .period)) 45 (found (one i)) (s .period))

@@ -31,7 +31,8 @@ settings-is : (s : Settings) → (settingsGood s ≡ true) ↔ ((s .period < 2 ^
 settings-is s = simp tests (λ (low, zero). (low, record { absent = zero }), λ (low, g). (low, g .absent))
 
 ihw-is : (i : StoredIhw) → (ihwGood i ≡ true) ↔ GoodIhw i
-ihw-is i = simp tests (λ (low, zero). record { lanes = low; absent = λ o j. record { stored = o j; lanes = zero o j } }, λ g. (g .lanes, λ o. cc (g .absent o)))
+ihw-is i =
+    simp tests (λ (low, zero). record { lanes = low; absent = λ o j. record { stored = o j; lanes = zero o j } }, λ g. (g .lanes, λ o. cc (g .absent o)))
 
 tdh-is : (h : StoredTdh) → (tdhGood h ≡ true) ↔ ((h .orbit < 2 ^ 32) × GoodTdh h)
 tdh-is h =
@@ -56,7 +57,8 @@ internal-is i =
     )
 
 cdw-is : (c : StoredCdw) → (cdwGood c ≡ true) ↔ GoodCdw c
-cdw-is c = simp tests (λ (low, zero). record { user = low; absent = λ o j. record { stored = o j; user = zero o j } }, λ g. (g .user, λ o. cc (g .absent o)))
+cdw-is c =
+    simp tests (λ (low, zero). record { user = low; absent = λ o j. record { stored = o j; user = zero o j } }, λ g. (g .user, λ o. cc (g .absent o)))
 
 frame-is : (frames : Bool) (f : Frame) → (frameGood frames f ≡ true) ↔ GoodFrame frames f
 frame-is frames f =
@@ -91,7 +93,14 @@ pub tests-good : (t : Tracker) → isGood t ≡ true → Good t × Sized t
 tests-good t e =
     let (settings, (packet, (count, ((ihw, (tdh, (internal, (cdw, frame)))), (present, fresh))))) = simp parts at e in
     let period = kept (t .settings .periodic) (t .settings .period) (settings .1 .absent) in
-    let same : t .settings ≡ settingsOf (t .settings) = λ j. record { running = t .settings .running; frames = t .settings .frames; periodic = t .settings .periodic; period = period j; rule = t .settings .rule } in (
+    let same : t .settings ≡ settingsOf (t .settings) =
+    λ j. record {
+      running = t .settings .running;
+      frames = t .settings .frames;
+      periodic = t .settings .periodic;
+      period = period j;
+      rule = t .settings .rule;
+    } in (
       record {
         settings = settings .1;
         packet = simp tests packet;
@@ -126,4 +135,22 @@ pub good-tests : (t : Tracker) → Good t → Sized t → isGood t ≡ true
 good-tests t g s =
     let range = simp tests at (g .packet) in
     let fresh : t .accepted ≡ false → bare t ≡ true = λ o. ap bare (g .fresh o) in
-    simp parts ((s .period, g .settings), (range, (g .count, ((g .stored .ihw, ((s .orbit, g .stored .tdh), ((s .internal-orbit, g .stored .internal), (g .stored .cdw, g .frame)))), ((g .ihw-present, g .tdh-present), simp parts at fresh)))))
+    simp parts (
+      (s .period, g .settings),
+      (
+        range,
+        (
+          g .count,
+          (
+            (
+              g .stored .ihw,
+              (
+                (s .orbit, g .stored .tdh),
+                ((s .internal-orbit, g .stored .internal), (g .stored .cdw, g .frame)),
+              ),
+            ),
+            ((g .ihw-present, g .tdh-present), simp parts at fresh),
+          ),
+        ),
+      ),
+    )

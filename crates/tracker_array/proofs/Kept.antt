@@ -19,7 +19,8 @@ scaled m f low = at (isOn f) refl
   where
     at : (b : Bool) → eqb f 1 ≡ b → m * f ≡ cond b m 0
     at true e = ap (λ (k : ℕ). m * k) (eqb-true f 1 e) ∙ mul-one m
-    at false e = let none : f ≡ 0 = (let other = eqb-false f 1 e in omega arith) in ap (λ (k : ℕ). m * k) none ∙ mul-zero m
+    at false e =
+        let none : f ≡ 0 = (let other = eqb-false f 1 e in omega arith) in ap (λ (k : ℕ). m * k) none ∙ mul-zero m
 
 pub scaled-low : (m f : ℕ) → f ≤ 1 → m * f ≤ m
 scaled-low m f low = rw (scaled m f low) (at (isOn f))
@@ -29,7 +30,9 @@ scaled-low m f low = rw (scaled m f low) (at (isOn f))
     at false = omega arith
 
 pub below : (n m : ℕ) → leb n m ≡ ltb n (m + 1)
-below n m = tests-agree _ _ (λ e. let l = leb-true n m e in lt-ltb n (m + 1) (omega arith)) (λ e. let l = ltb-true n (m + 1) e in le-leb n m (omega arith))
+below n m =
+    tests-agree _ _ (λ e. let l = leb-true n m e in
+    lt-ltb n (m + 1) (omega arith)) (λ e. let l = ltb-true n (m + 1) e in le-leb n m (omega arith))
 
 pub one-test : (n m f : ℕ) → f ≤ 1 → leb n (m * f) ≡ (ltb n (m + 1) && (isOn f || eqb n 0))
 one-test n m f low = rw (scaled m f low) (at (isOn f))
@@ -48,7 +51,8 @@ two false true false x y = simp and-false
 two false true true x y = refl
 
 pub three : (flag a b c x y z : Bool)
-    → ((a && (flag || x)) && ((b && (flag || y)) && (c && (flag || z)))) ≡ (a && (b && (c && (flag || (x && (y && z))))))
+    → ((a && (flag || x)) && ((b && (flag || y)) && (c && (flag || z))))
+    ≡ (a && (b && (c && (flag || (x && (y && z))))))
 three true a b c x y z = simp and-true
 three false false b c x y z = refl
 three false true false c x y z = simp and-false
@@ -66,7 +70,8 @@ only-where f g low high = at (isOn f) (isOn g) refl refl
 
 -- The state: one of the seven, 0 where there is no IHW, and 0 or 1 where there is no TDH.
 by-flags : (seven first second i h : Bool)
-    → ((seven && (i || first)) && cond h seven (first || second)) ≡ (seven && ((not (not first) || i) && (not (not first && not second) || h)))
+    → ((seven && (i || first)) && cond h seven (first || second))
+    ≡ (seven && ((not (not first) || i) && (not (not first && not second) || h)))
 by-flags false first second i h = refl
 by-flags true true second true true = refl
 by-flags true true second true false = refl
@@ -96,10 +101,13 @@ by-tdh n h low = at (isOn h) refl
   where
     at : (b : Bool) → eqb h 1 ≡ b → leb n (1 + 5 * h) ≡ cond b (leb n 6) (eqb n 0 || eqb n 1)
     at true e = ap (λ (k : ℕ). leb n (1 + 5 * k)) (eqb-true h 1 e)
-    at false e = let none : h ≡ 0 = (let other = eqb-false h 1 e in omega arith) in ap (λ (k : ℕ). leb n (1 + 5 * k)) none ∙ two-states n
+    at false e =
+        let none : h ≡ 0 = (let other = eqb-false h 1 e in omega arith) in
+        ap (λ (k : ℕ). leb n (1 + 5 * k)) none ∙ two-states n
 
 pub state-fits : (n i h : ℕ) → h ≤ 1
-    → ((ltb n 7 && (isOn i || eqb n 0)) && leb n (1 + 5 * h)) ≡ (leb n 6 && ((not (pastIhw (stateOf n)) || isOn i) && (not (pastTdh (stateOf n)) || isOn h)))
+    → ((ltb n 7 && (isOn i || eqb n 0)) && leb n (1 + 5 * h))
+    ≡ (leb n 6 && ((not (pastIhw (stateOf n)) || isOn i) && (not (pastTdh (stateOf n)) || isOn h)))
 state-fits n i h low =
     (λ j. (sym (below n 6) j && (isOn i || eqb n 0)) && by-tdh n h low j)
     ∙ by-flags (leb n 6) (eqb n 0) (eqb n 1) (isOn i) (isOn h)

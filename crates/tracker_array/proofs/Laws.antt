@@ -53,7 +53,8 @@ number-rule n two = at (eqb n 1) refl
     at false p = rw (two p) refl
 
 -- A tracker's numbers pass four tests.
-tracker-is : (a : List ℕ) → (isTracker a ≡ true) ↔ ((length a ≡ size) × ((inForm a ≡ true) × ((place a P.state ≤ 6) × (isGood (trackerIn a) ≡ true))))
+tracker-is : (a : List ℕ) → (isTracker a ≡ true)
+    ↔ ((length a ≡ size) × ((inForm a ≡ true) × ((place a P.state ≤ 6) × (isGood (trackerIn a) ≡ true))))
 unfolding isTracker
 tracker-is a = (
   λ e.
@@ -86,7 +87,8 @@ module _ (t : Tracker) where
   long-back = refl
 
   pub tracker-back : Good t → Sized t → isTracker (encodeOf t) ≡ true
-  tracker-back g s = tracker-is (encodeOf t) .1 (long-back, (form-back, (state-back-low, ap isGood reads-back ∙ good-tests t g s)))
+  tracker-back g s =
+      tracker-is (encodeOf t) .1 (long-back, (form-back, (state-back-low, ap isGood reads-back ∙ good-tests t g s)))
 
 -- No two trackers have the same numbers.
 pub encode-apart : (t u : Tracker) → encodeOf t ≡ encodeOf u → t ≡ u
@@ -122,7 +124,9 @@ tracker-fits a e =
 
 -- The invariant of an array is the test, in both directions; a tracker's own numbers meet it.
 pub good-array : (a : List ℕ) → isTracker a ≡ true → GoodArray a
-good-array a e = let (good, sized) = tracker-good a e in record { fits = tracker-fits a e; own = written a e; good = good; sized = sized }
+good-array a e =
+    let (good, sized) = tracker-good a e in
+    record { fits = tracker-fits a e; own = written a e; good = good; sized = sized }
 
 pub good-again : (t : Tracker) → Good t → Sized t → GoodArray (encodeOf t)
 good-again t g s = good-array (encodeOf t) (tracker-back t g s)
@@ -138,21 +142,26 @@ in-form a long e =
 
 -- Where no packet was accepted, a tracker is one that the start gave: nothing stands in it but the settings.
 pub bare-good : (a : List ℕ) → InForm a → isOn (place a P.accepted) ≡ false
-    → (settingsGood (settingsIn a) && zerosFrom (P.unused - P.packet) P.packet a) ≡ (leb (place a P.state) 6 && isGood (trackerIn a))
+    → (settingsGood (settingsIn a) && zerosFrom (P.unused - P.packet) P.packet a) ≡ (leb (place a P.state) 6 && isGood
+    (trackerIn a))
 unfolding numbersFrom encodeOf zerosFrom
 bare-good a f off = tests-agree _ _ there back
   where
-    there : (settingsGood (settingsIn a) && zerosFrom (P.unused - P.packet) P.packet a) ≡ true → (leb (place a P.state) 6 && isGood (trackerIn a)) ≡ true
+    there : (settingsGood (settingsIn a) && zerosFrom (P.unused - P.packet) P.packet a) ≡ true
+        → (leb (place a P.state) 6 && isGood (trackerIn a)) ≡ true
     there e =
         let (set, zeros) = both (settingsGood (settingsIn a)) _ e in
-        let same : a ≡ numbersFrom P.packet 0 a ++ (replicate (P.unused - P.packet) 0 ++ numbersFrom (size - P.unused) P.unused a) =
+        let same : a ≡ numbersFrom P.packet 0 a ++ (replicate (P.unused - P.packet) 0 ++ numbersFrom
+        (size - P.unused) P.unused a) =
         sym (spelled size 0 a (f .long)) ∙ in-two P.packet (size - P.packet) 0 a
         ∙ ap (λ (l : List ℕ). numbersFrom P.packet 0 a ++ l)
         (in-two (P.unused - P.packet) (size - P.unused) P.packet a
-        ∙ ap (λ (l : List ℕ). l ++ numbersFrom (size - P.unused) P.unused a) (all-zero (P.unused - P.packet) P.packet a zeros)) in
+        ∙ ap (λ (l : List ℕ). l ++ numbersFrom (size - P.unused) P.unused a)
+        (all-zero (P.unused - P.packet) P.packet a zeros)) in
         ap (λ (l : List ℕ). leb (place l P.state) 6 && isGood (trackerIn l)) same ∙ simp (set, off, or-true)
 
-    back : (leb (place a P.state) 6 && isGood (trackerIn a)) ≡ true → (settingsGood (settingsIn a) && zerosFrom (P.unused - P.packet) P.packet a) ≡ true
+    back : (leb (place a P.state) 6 && isGood (trackerIn a)) ≡ true
+        → (settingsGood (settingsIn a) && zerosFrom (P.unused - P.packet) P.packet a) ≡ true
     back e =
         let (low, good) = both (leb (place a P.state) 6) _ e in
         let own = written a (tracker-is a .1 (f .long, (f .form, (leb-true _ _ low, good)))) in
@@ -199,7 +208,8 @@ another-length a h = no-tracker a (simp (ne-eqb _ _ h))
 
 -- What the code tests, one half after the other.
 module _ (a : List ℕ) where
-  pub tested : {f g : Bool} → length a ≡ size → f ≡ inForm a → g ≡ (leb (place a P.state) 6 && isGood (trackerIn a)) → isTracker a ≡ (f && g)
+  pub tested : {f g : Bool} → length a ≡ size → f ≡ inForm a → g ≡ (leb (place a P.state) 6 && isGood (trackerIn a))
+      → isTracker a ≡ (f && g)
   unfolding isTracker
   tested l p q = simp (eq-eqb _ _ l, p, q)
 

@@ -14,10 +14,12 @@ use Rattle.tracker_array.specs.Read.{stateOf, inStart}
 
 -- The state by six tests, one after the other.
 abbrev byTests : Bool → Bool → Bool → Bool → Bool → Bool → State
-byTests a b c d e f = cond a S.Ihw (cond b S.Tdh (cond c S.Data (cond d S.CData (cond e S.Three (cond f S.CIhw S.CTdh)))))
+byTests a b c d e f =
+    cond a S.Ihw (cond b S.Tdh (cond c S.Data (cond d S.CData (cond e S.Three (cond f S.CIhw S.CTdh)))))
 
 -- What holds of a state by its tests: of IHW_, of TDH_, and of those after both.
-by-tests : (P : State → Bool) (a b c d e f later : Bool) → P S.Data ≡ later → P S.CData ≡ later → P S.Three ≡ later → P S.CIhw ≡ later → P S.CTdh ≡ later
+by-tests : (P : State → Bool) (a b c d e f later : Bool) → P S.Data ≡ later → P S.CData ≡ later → P S.Three ≡ later
+    → P S.CIhw ≡ later → P S.CTdh ≡ later
     → P (byTests a b c d e f) ≡ cond a (P S.Ihw) (cond b (P S.Tdh) later)
 by-tests P true b c d e f l p q r s t = refl
 by-tests P false true c d e f l p q r s t = refl
@@ -28,7 +30,8 @@ by-tests P false false false false false true l p q r s t = s
 by-tests P false false false false false false l p q r s t = t
 
 module _ (n : ℕ) where
-  split : (P : State → Bool) (later : Bool) → P S.Data ≡ later → P S.CData ≡ later → P S.Three ≡ later → P S.CIhw ≡ later → P S.CTdh ≡ later
+  split : (P : State → Bool) (later : Bool) → P S.Data ≡ later → P S.CData ≡ later → P S.Three ≡ later
+      → P S.CIhw ≡ later → P S.CTdh ≡ later
       → P (stateOf n) ≡ cond (eqb n 0) (P S.Ihw) (cond (eqb n 1) (P S.Tdh) later)
   split P = by-tests P (eqb n 0) (eqb n 1) (eqb n 2) (eqb n 3) (eqb n 4) (eqb n 5)
 
@@ -70,7 +73,8 @@ state-low S.CTdh = omega arith
 pub number-back : (n : ℕ) → n ≤ 6 → stateNumber (stateOf n) ≡ n
 number-back n h = at (eqb n 0) (eqb n 1) (eqb n 2) (eqb n 3) (eqb n 4) (eqb n 5) refl refl refl refl refl refl
   where
-    at : (a b c d e f : Bool) → eqb n 0 ≡ a → eqb n 1 ≡ b → eqb n 2 ≡ c → eqb n 3 ≡ d → eqb n 4 ≡ e → eqb n 5 ≡ f → stateNumber (byTests a b c d e f) ≡ n
+    at : (a b c d e f : Bool) → eqb n 0 ≡ a → eqb n 1 ≡ b → eqb n 2 ≡ c → eqb n 3 ≡ d → eqb n 4 ≡ e → eqb n 5 ≡ f
+        → stateNumber (byTests a b c d e f) ≡ n
     at true b c d e f p q r s t u = sym (eqb-true n 0 p)
     at false true c d e f p q r s t u = sym (eqb-true n 1 q)
     at false false true d e f p q r s t u = sym (eqb-true n 2 r)
@@ -88,7 +92,14 @@ number-back n h = at (eqb n 0) (eqb n 1) (eqb n 2) (eqb n 3) (eqb n 4) (eqb n 5)
 
 pub rest-state : (n : ℕ) → 6 ≤ n → S.CTdh ≡ stateOf n
 rest-state n h =
-    simp (ne-eqb n 0 (λ e. omega arith), ne-eqb n 1 (λ e. omega arith), ne-eqb n 2 (λ e. omega arith), ne-eqb n 3 (λ e. omega arith), ne-eqb n 4 (λ e. omega arith), ne-eqb n 5 (λ e. omega arith))
+    simp (
+      ne-eqb n 0 (λ e. omega arith),
+      ne-eqb n 1 (λ e. omega arith),
+      ne-eqb n 2 (λ e. omega arith),
+      ne-eqb n 3 (λ e. omega arith),
+      ne-eqb n 4 (λ e. omega arith),
+      ne-eqb n 5 (λ e. omega arith),
+    )
 
 pub starts : (s : State) → inStart s ≡ true → s ≡ S.Ihw
 starts S.Ihw e = refl

@@ -25,14 +25,16 @@ numbersFrom (suc n) i a = getD a i 0 ∷ numbersFrom n (suc i) a
 pub spelled : (n i : ℕ) (a : List ℕ) → length a ≡ i + n → numbersFrom n i a ≡ drop i a
 unfolding numbersFrom
 spelled zero i a e = let past : length a ≤ i = omega arith in sym (drop-of-length-le a past)
-spelled (suc n) i a e = sym (drop-cons a i 0 (omega arith) ∙ ap (λ (l : List ℕ). getD a i 0 ∷ l) (sym (spelled n (suc i) a (omega arith))))
+spelled (suc n) i a e =
+    sym (drop-cons a i 0 (omega arith) ∙ ap (λ (l : List ℕ). getD a i 0 ∷ l) (sym (spelled n (suc i) a (omega arith))))
 
 pub in-two : (n m i : ℕ) (a : List ℕ) → numbersFrom (n + m) i a ≡ numbersFrom n i a ++ numbersFrom m (i + n) a
 unfolding numbersFrom
 in-two zero m i a = λ j. numbersFrom (zero-add m j) (sym (add-zero i) j) a
 in-two (suc n) m i a =
     (λ j. numbersFrom (suc-add n m j) i a)
-    ∙ ap (λ (l : List ℕ). getD a i 0 ∷ l) (in-two n m (suc i) a ∙ (λ j. numbersFrom n (suc i) a ++ numbersFrom m (moved j) a))
+    ∙ ap (λ (l : List ℕ). getD a i 0 ∷ l) (in-two n m (suc i) a
+    ∙ (λ j. numbersFrom n (suc i) a ++ numbersFrom m (moved j) a))
   where
     moved : suc i + n ≡ i + suc n
     moved = omega arith
@@ -46,7 +48,8 @@ all-zero (suc n) i a e =
     λ j. eqb-true (place a i) 0 first j ∷ all-zero n (suc i) a rest j
 
 -- One after the other: the first of them and the rest, up to none.
-pub one-more : (all : Bool) (i to : ℕ) (a : List ℕ) → i < to → ((all && eqb (place a i) 0) && zerosFrom (to - (i + 1)) (i + 1) a)
+pub one-more : (all : Bool) (i to : ℕ) (a : List ℕ) → i < to
+    → ((all && eqb (place a i) 0) && zerosFrom (to - (i + 1)) (i + 1) a)
     ≡ (all && zerosFrom (to - i) i a)
 unfolding zerosFrom
 one-more all i to a h =
@@ -62,21 +65,26 @@ no-more all i to a h =
     sym (and-true all) ∙ ap (λ (n : ℕ). all && zerosFrom n i a) (sym none)
 
 -- Zeros stored one after the other.
-pub one-stored : (i to : ℕ) (a : List ℕ) → i < to → sets (set a i 0) (i + 1) (replicate (to - (i + 1)) 0) ≡ sets a i (replicate (to - i) 0)
+pub one-stored : (i to : ℕ) (a : List ℕ) → i < to
+    → sets (set a i 0) (i + 1) (replicate (to - (i + 1)) 0) ≡ sets a i (replicate (to - i) 0)
 one-stored i to a h =
     let left : to - i ≡ suc (to - (i + 1)) = omega arith in
-    (λ j. sets (set a i 0) (add-one i j) (replicate (to - (i + 1)) 0)) ∙ ap (λ (n : ℕ). sets a i (replicate n 0)) (sym left)
+    (λ j. sets (set a i 0) (add-one i j) (replicate (to - (i + 1)) 0))
+    ∙ ap (λ (n : ℕ). sets a i (replicate n 0)) (sym left)
 
 pub all-stored : (i to : ℕ) (a : List ℕ) → to ≤ i → a ≡ sets a i (replicate (to - i) 0)
 all-stored i to a h = let none : to - i ≡ 0 = omega arith in ap (λ (n : ℕ). sets a i (replicate n 0)) (sym none)
 
 -- A tracker's numbers stored at every place, whatever stood there.
 pub stored-all : (a : List ℕ) (t : Tracker) → length a ≡ size
-    → sets (sets (sets a P.unused (replicate (size - P.unused) 0)) P.mark (firstNumbers (t .settings) (t .accepted) (t .packet) (t .at))) P.stored (storedNumbers (t .stored) (t .frame))
+    → sets (sets (sets a P.unused (replicate (size - P.unused) 0)) P.mark
+    (firstNumbers (t .settings) (t .accepted) (t .packet) (t .at))) P.stored (storedNumbers (t .stored) (t .frame))
     ≡ encodeOf t
 unfolding numbersFrom encodeOf
 stored-all a t long =
-    ap (λ (l : List ℕ). sets (sets (sets l P.unused (replicate (size - P.unused) 0)) P.mark (firstNumbers (t .settings) (t .accepted) (t .packet) (t .at))) P.stored (storedNumbers (t .stored) (t .frame))) (sym (spelled size 0 a long))
+    ap (λ (l : List ℕ). sets (sets (sets l P.unused (replicate (size - P.unused) 0)) P.mark
+    (firstNumbers (t .settings) (t .accepted) (t .packet) (t .at))) P.stored (storedNumbers (t .stored) (t .frame)))
+    (sym (spelled size 0 a long))
 
 -- A tracker written to an array of its length, and to another.
 pub wrote : (a : List ℕ) (t : Tracker) → length a ≡ size → encodeOf t ≡ writtenTo a t

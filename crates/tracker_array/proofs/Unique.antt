@@ -12,5 +12,6 @@ use Rattle.tracker_array.specs.Read.{isTracker}
 pub is-tracker-unique : (a : List ℕ) {first second : Bool} → first ≡ isTracker a → second ≡ isTracker a → first ≡ second
 is-tracker-unique a = unique
 
-pub encode-unique : (a : List ℕ) (t : Tracker) {first second : List ℕ} → first ≡ writtenTo a t → second ≡ writtenTo a t → first ≡ second
+pub encode-unique : (a : List ℕ) (t : Tracker) {first second : List ℕ} → first ≡ writtenTo a t → second ≡ writtenTo a t
+    → first ≡ second
 encode-unique a t = unique

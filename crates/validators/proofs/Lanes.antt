@@ -28,7 +28,8 @@ inBarrel ofInner id = eqb (id / 32) (cond ofInner 0b001 0b010)
 
 -- Of these, those whose lane is above the barrel's last are those that are no data ids. Computed over the 256 ids.
 past-last : (ofInner : Bool) (id : ℕ) → id < 256
-    → (inBarrel ofInner id && ltb (lastLane ofInner) (laneNumber id ofInner)) ≡ (inBarrel ofInner id && not (isDataId id))
+    → (inBarrel ofInner id && ltb (lastLane ofInner) (laneNumber id ofInner)) ≡ (inBarrel ofInner id && not
+    (isDataId id))
 past-last true = same-at-ids _ _ refl
 past-last false = same-at-ids _ _ refl
 
@@ -45,7 +46,8 @@ pub record Cable (id code first : ℕ) : Type 0 where
   pub outer-lane : code ≡ 1071 → first ≤ lastLane false
   pub no-lane : code ≡ 1074 → (lastLane (isInner id) < first) × (isDataId id ≡ false)
 
-far : {id first : ℕ} {on : Bool} (code : ℕ) → eqb code 1072 ≡ false → eqb code 1071 ≡ false → eqb code 1074 ≡ false → on ≡ true → Cable id code first
+far : {id first : ℕ} {on : Bool} (code : ℕ) → eqb code 1072 ≡ false → eqb code 1071 ≡ false → eqb code 1074 ≡ false
+    → on ≡ true → Cable id code first
 far code e f g _ =
     record {
       inner-lane = λ q. absurd (eqb-false code 1072 e q);
@@ -55,8 +57,10 @@ far code e f g _ =
 
 module _ (id : ℕ) (bound : id < 256) where
   there : (ofInner : Bool) (lane : ℕ) → lane ≤ lastLane ofInner → Cable id (cond ofInner 1072 1071) lane
-  there true lane le = record { inner-lane = λ _. le; outer-lane = λ q. absurd (omega arith); no-lane = λ q. absurd (omega arith) }
-  there false lane le = record { inner-lane = λ q. absurd (omega arith); outer-lane = λ _. le; no-lane = λ q. absurd (omega arith) }
+  there true lane le =
+      record { inner-lane = λ _. le; outer-lane = λ q. absurd (omega arith); no-lane = λ q. absurd (omega arith) }
+  there false lane le =
+      record { inner-lane = λ q. absurd (omega arith); outer-lane = λ _. le; no-lane = λ q. absurd (omega arith) }
 
   its-barrel : (ofInner : Bool) → inBarrel ofInner id ≡ true → isInner id ≡ ofInner
   its-barrel true e = let top = eqb-true (id / 32) 1 e in lt-ltb id 0x40 (omega arith)
@@ -66,14 +70,16 @@ module _ (id : ℕ) (bound : id < 256) where
   no-data true none e p = absurd (true≢false (sym p ∙ e))
   no-data false none e p = refl
 
-  missing : (ofInner : Bool) → inBarrel ofInner id ≡ true → ltb (lastLane ofInner) (laneNumber id ofInner) ≡ true → Cable id 1074 (laneNumber id ofInner)
+  missing : (ofInner : Bool) → inBarrel ofInner id ≡ true → ltb (lastLane ofInner) (laneNumber id ofInner) ≡ true
+      → Cable id 1074 (laneNumber id ofInner)
   missing ofInner barrel none =
       record {
         inner-lane = λ q. absurd (omega arith);
         outer-lane = λ q. absurd (omega arith);
         no-lane = λ _. (
           rw (its-barrel ofInner barrel) (ltb-true (lastLane ofInner) (laneNumber id ofInner) none),
-          no-data (isDataId id) (ltb (lastLane ofInner) (laneNumber id ofInner)) (simp barrel at (past-last ofInner id bound)) none,
+          no-data (isDataId id) (ltb (lastLane ofInner) (laneNumber id ofInner))
+              (simp barrel at (past-last ofInner id bound)) none,
         );
       }
 
@@ -84,9 +90,12 @@ module _ (id : ℕ) (bound : id < 256) where
   lane-told active ofInner laned lane is = at (ltb (lastLane ofInner) lane) (isLaneActive lane active) refl
     where
       at : (none on : Bool) → ltb (lastLane ofInner) lane ≡ none
-          → ((laned && inBarrel ofInner id) && not (isActive (cond none L.NoSuchLane (cond on L.Active L.NotActive)))) ≡ true
+          → ((laned && inBarrel ofInner id) && not (isActive (cond none L.NoSuchLane (cond on L.Active L.NotActive))))
+          ≡ true
           → Cable id (laneCode (cond ofInner 1072 1071) (cond none L.NoSuchLane (cond on L.Active L.NotActive))) lane
-      at true on e asked = rw is (missing ofInner (both laned (inBarrel ofInner id) (both (laned && inBarrel ofInner id) true asked .0) .1) (rw is at e))
+      at true on e asked =
+          rw is (missing ofInner (both laned (inBarrel ofInner id)
+          (both (laned && inBarrel ofInner id) true asked .0) .1) (rw is at e))
       at false true e asked = there ofInner lane (ltb-false (lastLane ofInner) lane e)
       at false false e asked = there ofInner lane (ltb-false (lastLane ofInner) lane e)
 
@@ -115,7 +124,8 @@ input-7 : (id : ℕ) → id < 256 → (inBarrel false id && (not (isDataId id) &
 input-7 = same-at-ids _ (λ i. false) refl
 
 -- The records of a word with such an id, with running checks: these and no others, whichever lanes are active.
-module _ (s : Settings) (running : s .running ≡ true) (seen : Bool) (lanes : ℕ) (stored : StoredCdw) (w : Word) (other : isDataId (idOf w) ≡ false) (position : ℕ) where
+module _ (s : Settings) (running : s .running ≡ true) (seen : Bool) (lanes : ℕ) (stored : StoredCdw) (w : Word)
+    (other : isDataId (idOf w) ≡ false) (position : ℕ) where
   abbrev say : ℕ → ℕ → ℕ → Record
   say code first second = recordAt position (when true code first second)
 
@@ -126,7 +136,8 @@ module _ (s : Settings) (running : s .running ≡ true) (seen : Bool) (lanes : �
   no-cdw e lt = ne-eqb (idOf w) 0xF8 (λ q. omega arith)
 
   pub inner-missing : inner w ≡ true
-      → given position (dataRows s seen lanes stored true w) ≡ say 991 (idOf w) 0 ∷ say 70 (idOf w) 0 ∷ say 1074 (innerLane (idOf w)) lanes ∷ []
+      → given position (dataRows s seen lanes stored true w) ≡ say 991 (idOf w) 0 ∷ say 70 (idOf w) 0 ∷ say 1074
+      (innerLane (idOf w)) lanes ∷ []
   unfolding given
   inner-missing barrel =
       let top = eqb-true (idOf w / 32) 1 barrel in

@@ -34,7 +34,8 @@ module _ (seam hi lo : ℕ) (fits : lo < 2 ^ seam) where
 
   pub high-part : (h l : ℕ) → seam ≤ l → slice h l joined ≡ (hi / 2 ^ (l - seam)) % 2 ^ (h + 1 - l)
   high-part h l le =
-      ap (λ (n : ℕ). n % 2 ^ (h + 1 - l)) (ap (λ (k : ℕ). joined / 2 ^ k) (sym e) ∙ sym (shr-shr joined seam (l - seam)) ∙ ap (λ (n : ℕ). n / 2 ^ (l - seam)) (high hi seam fits))
+      ap (λ (n : ℕ). n % 2 ^ (h + 1 - l)) (ap (λ (k : ℕ). joined / 2 ^ k) (sym e) ∙ sym (shr-shr joined seam (l - seam))
+      ∙ ap (λ (n : ℕ). n / 2 ^ (l - seam)) (high hi seam fits))
     where
       e : seam + (l - seam) ≡ l
       e = omega arith
@@ -53,7 +54,8 @@ high-half h l w fits le = high-part 64 (w .hi) (w .lo) fits h l le
 pub one-shl : (k w : ℕ) → k < w → (1 * 2 ^ k) % 2 ^ w ≡ 2 ^ k
 one-shl k w h = shl-exact 1 k w (omega arith) (omega arith) ∙ one-mul (2 ^ k)
 
-pub masked : (n k w x : ℕ) → k < w → x ≡ n % 2 ^ k → (n % ((1 * 2 ^ k) % 2 ^ w) ≡ x) × (n % ((1 * 2 ^ k) % 2 ^ w) < 2 ^ k)
+pub masked : (n k w x : ℕ) → k < w → x ≡ n % 2 ^ k → (n % ((1 * 2 ^ k) % 2 ^ w) ≡ x)
+    × (n % ((1 * 2 ^ k) % 2 ^ w) < 2 ^ k)
 masked n k w x h e = rw (one-shl k w h) (sym e, mod-lt n (pow-pos k))
 
 pub shl-pos : (k w : ℕ) → k < w → 0 < (1 * 2 ^ k) % 2 ^ w
@@ -68,7 +70,8 @@ both-halves h l w low high =
     let under : 63 + 1 - l ≡ 64 - l = omega arith in
     ap (λ (k : ℕ). (value w / 2 ^ l) % 2 ^ k) whole
     ∙ mod-pow-add (value w / 2 ^ l) (h + 1 - 64) (64 - l)
-    ∙ ap (λ (n : ℕ). n % 2 ^ (h + 1 - 64) * 2 ^ (64 - l) + (value w / 2 ^ l) % 2 ^ (64 - l)) (shr-shr (value w) l (64 - l) ∙ ap (λ (k : ℕ). value w / 2 ^ k) seam)
+    ∙ ap (λ (n : ℕ). n % 2 ^ (h + 1 - 64) * 2 ^ (64 - l) + (value w / 2 ^ l) % 2 ^ (64 - l))
+    (shr-shr (value w) l (64 - l) ∙ ap (λ (k : ℕ). value w / 2 ^ k) seam)
     ∙ ap (λ (k : ℕ). (value w / 2 ^ 64) % 2 ^ (h + 1 - 64) * 2 ^ (64 - l) + (value w / 2 ^ l) % 2 ^ k) (sym under)
 
 -- A range of bits is below the power of two that its width gives.

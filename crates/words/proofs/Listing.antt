@@ -30,7 +30,8 @@ module _ {A : Type 0} (d : A) where
   from zero at k l h = refl
   from (suc n) at k l h =
       let next : at + suc k ≡ suc (at + k) = add-suc at k in
-      ap (λ (r : List A). getD l (at + k) d ∷ r) (from n at (suc k) l (omega arith) ∙ ap (λ (j : ℕ). take n (drop j l)) next)
+      ap (λ (r : List A). getD l (at + k) d ∷ r)
+      (from n at (suc k) l (omega arith) ∙ ap (λ (j : ℕ). take n (drop j l)) next)
       ∙ ap (take (suc n)) (sym (drop-cons l (at + k) d (omega arith)))
 
   pub reads-part : (n at : ℕ) (l : List A) → at + n ≤ length l → readsAt n at 0 l ≡ take n (drop at l)

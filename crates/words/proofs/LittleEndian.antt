@@ -25,6 +25,9 @@ parts (suc m) n (x ∷ xs) =
     let more = parts m n xs in
     rw (suc-add, pow-succ' 256 m, mul-assoc 256 (256 ^ m)) (omega arith)
 
-pub two-parts : (m n : ℕ) (bytes : List ℕ) (at : ℕ) → numberAt bytes at (m + n) ≡ numberAt bytes at m + 256 ^ m * numberAt bytes (at + m) n
+pub two-parts : (m n : ℕ) (bytes : List ℕ) (at : ℕ)
+    → numberAt bytes at (m + n) ≡ numberAt bytes at m + 256 ^ m * numberAt bytes (at + m) n
 unfolding numberAt
-two-parts m n bytes at = parts m n (drop at bytes) ∙ ap (λ (l : List ℕ). number (take m (drop at bytes)) + 256 ^ m * number (take n l)) (drop-drop m at bytes)
+two-parts m n bytes at =
+    parts m n (drop at bytes) ∙ ap (λ (l : List ℕ). number (take m (drop at bytes)) + 256 ^ m * number (take n l))
+    (drop-drop m at bytes)

@@ -39,7 +39,8 @@ number-ten b e =
     omega (arith, peel b 0, peel b 1, peel b 2, peel b 3, peel b 4, peel b 5, peel b 6, peel b 7, peel b 8, peel b 9)
 
 -- What the code sums up is the word.
-pub loaded : (b : List ℕ) → length b ≡ 10 → (r : Word) → r .lo ≡ lower b → r .hi ≡ upper b → lower b < 2 ^ 64 → upper b < 2 ^ 16 → r ≡ wordOf b
+pub loaded : (b : List ℕ) → length b ≡ 10 → (r : Word) → r .lo ≡ lower b → r .hi ≡ upper b → lower b < 2 ^ 64
+    → upper b < 2 ^ 16 → r ≡ wordOf b
 unfolding wordOf
 loaded b e r p q fits fits-too =
     let n = number-ten b e in
@@ -69,7 +70,8 @@ cut (suc n) [] byte i = omega arith
 cut (suc n) (x ∷ xs) byte zero = byte 0
 cut (suc n) (x ∷ xs) byte (suc i) = cut n xs (λ j. byte (suc j)) i
 
-pub id-at : (b : List ℕ) (at : ℕ) → at + 10 ≤ length b → ((i : ℕ) → getD b i 0 < 256) → idOf (wordOf (take 10 (drop at b))) ≡ getD b (at + 9) 0
+pub id-at : (b : List ℕ) (at : ℕ) → at + 10 ≤ length b → ((i : ℕ) → getD b i 0 < 256)
+    → idOf (wordOf (take 10 (drop at b))) ≡ getD b (at + 9) 0
 id-at b at h byte =
     let long : length (take 10 (drop at b)) ≡ 10 = length-take-le 10 (drop at b) (simp length-drop (omega arith)) in
     id-byte (take 10 (drop at b)) long (cut 10 (drop at b) (λ i. rw (getD-drop at b i 0) (byte (at + i))))
@@ -78,7 +80,8 @@ id-at b at h byte =
 
 -- What a buffer is read as: a word where it has ten bytes, else refusal 1.
 pub read-ten : (b : List ℕ) {w : Word} → length b ≡ 10 → w ≡ wordOf b → FromBufPost b (Is w)
-read-ten b e p = record { answer = simp (eq-eqb _ _ e) (ap Is p); number = simp (eq-eqb _ _ e); value = simp (eq-eqb _ _ e) p }
+read-ten b e p =
+    record { answer = simp (eq-eqb _ _ e) (ap Is p); number = simp (eq-eqb _ _ e); value = simp (eq-eqb _ _ e) p }
 
 pub read-none : (b : List ℕ) → (length b ≡ 10 → ⊥) → FromBufPost b (Refused 1)
 read-none b e = record { answer = simp (ne-eqb _ _ e); number = simp (ne-eqb _ _ e); value = simp (ne-eqb _ _ e) }

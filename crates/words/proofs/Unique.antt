@@ -9,5 +9,6 @@ use Rattle.words.specs.Word.{FromBufPost}
 pub unique : {A : Type 0} {defined first second : A} → first ≡ defined → second ≡ defined → first ≡ second
 unique first second = first ∙ sym second
 
-pub from-buf-unique : {bytes : List ℕ} {first second : FromBuf} → FromBufPost bytes first → FromBufPost bytes second → first ≡ second
+pub from-buf-unique : {bytes : List ℕ} {first second : FromBuf} → FromBufPost bytes first → FromBufPost bytes second
+    → first ≡ second
 from-buf-unique a b = unique (a .answer) (b .answer)

@@ -27,7 +27,8 @@ abbrev pub boths : ℕ → ℕ → ℕ
 boths n x = bitAnd (lows n x) (highs n x)
 
 -- What is common to two numbers: of their lowest lane's two bits, and of the lanes above it.
-by-lane : (a b a′ b′ : ℕ) → a / 4 ≡ a′ → b / 4 ≡ b′ → bitAnd a b ≡ 4 * bitAnd a′ b′ + 2 * min (a / 2 % 2) (b / 2 % 2) + min (a % 2) (b % 2)
+by-lane : (a b a′ b′ : ℕ) → a / 4 ≡ a′ → b / 4 ≡ b′
+    → bitAnd a b ≡ 4 * bitAnd a′ b′ + 2 * min (a / 2 % 2) (b / 2 % 2) + min (a % 2) (b % 2)
 by-lane a b a′ b′ p q =
     let p′ : a / 2 / 2 ≡ a / 4 = omega arith in
     let q′ : b / 2 / 2 ≡ b / 4 = omega arith in
@@ -45,7 +46,8 @@ highs-by-lane n x =
 
 boths-by-lane : (n x : ℕ) → boths (suc n) x ≡ 4 * boths n (x / 4) + min (x % 2) (x / 2 % 2)
 boths-by-lane n x =
-    ap₂ bitAnd (lows-by-lane n x) (highs-by-lane n x) ∙ apart (lows n (x / 4)) (highs n (x / 4)) (x % 2) (x / 2 % 2) (omega arith) (omega arith)
+    ap₂ bitAnd (lows-by-lane n x) (highs-by-lane n x)
+    ∙ apart (lows n (x / 4)) (highs n (x / 4)) (x % 2) (x / 2 % 2) (omega arith) (omega arith)
   where
     apart : (low high a b : ℕ) → a < 2 → b < 2 → bitAnd (4 * low + a) (4 * high + b) ≡ 4 * bitAnd low high + min a b
     apart low high a b p q = omega (arith, by-lane (4 * low + a) (4 * high + b) low high (omega arith) (omega arith))
@@ -75,7 +77,8 @@ one-by-one : (l h b l′ h′ b′ : ℕ) → max (worstOf l h b) (worstOf l′ 
 one-by-one l h b l′ h′ b′ =
     let three : max (3 * b) (3 * b′) ≡ 3 * max b b′ = omega arith in
     let two : max (2 * h) (2 * h′) ≡ 2 * max h h′ = omega arith in
-    swap (3 * b) (max (2 * h) l) (3 * b′) (max (2 * h′) l′) ∙ ap₂ max three (swap (2 * h) l (2 * h′) l′ ∙ ap (λ (n : ℕ). max n (max l l′)) two)
+    swap (3 * b) (max (2 * h) l) (3 * b′) (max (2 * h′) l′)
+    ∙ ap₂ max three (swap (2 * h) l (2 * h′) l′ ∙ ap (λ (n : ℕ). max n (max l l′)) two)
 
 one-lane : (low high both a b : ℕ) → a < 2 → b < 2
     → max (2 * b + a) (worstBy low high both) ≡ worstBy (4 * low + a) (4 * high + b) (4 * both + min a b)
@@ -112,7 +115,8 @@ module _ (w : Word) (fits : w .lo < 2 ^ 64) where
   lane : (n : ℕ) → n < lanes → laneStatus n w ≡ w .lo / 2 ^ (2 * n) % 4
   lane n h =
       let two : 2 * n + 1 + 1 - 2 * n ≡ 2 = omega arith in
-      simp (lt-ltb n lanes h) (low-half (2 * n + 1) (2 * n) w fits (omega arith) (omega arith) ∙ ap (λ (k : ℕ). w .lo / 2 ^ (2 * n) % 2 ^ k) two)
+      simp (lt-ltb n lanes h) (low-half (2 * n + 1) (2 * n) w fits (omega arith) (omega arith)
+      ∙ ap (λ (k : ℕ). w .lo / 2 ^ (2 * n) % 2 ^ k) two)
 
   below : (n : ℕ) → n ≤ lanes → worstBelow n w ≡ worstFrom n (w .lo)
   unfolding worstBelow
@@ -120,5 +124,6 @@ module _ (w : Word) (fits : w .lo < 2 ^ 64) where
   below (suc n) h = ap₂ max (below n (omega arith)) (lane n h) ∙ sym (last-lane n (w .lo))
 
   -- The law: of any number of lanes, what their bits say at once is the worst of them.
-  pub worst-at-once : (n : ℕ) → n ≤ lanes → worstBelow n w ≡ worstBy (lows n (w .lo)) (highs n (w .lo)) (boths n (w .lo))
+  pub worst-at-once : (n : ℕ) → n ≤ lanes → worstBelow n w ≡ worstBy (lows n (w .lo)) (highs n (w .lo))
+      (boths n (w .lo))
   worst-at-once n h = below n h ∙ from-at-once n (w .lo)

@@ -26,7 +26,8 @@ unfolding bytesOf number
 number-bytes zero n = omega arith
 number-bytes (suc k) n =
     let e : 8 * k + 8 ≡ 8 * suc k = omega arith in
-    let part : n % 2 ^ (8 * suc k) ≡ n / 256 % 2 ^ (8 * k) * 256 + n % 256 = ap (λ (j : ℕ). n % 2 ^ j) (sym e) ∙ mod-pow-add n (8 * k) 8 in
+    let part : n % 2 ^ (8 * suc k) ≡ n / 256 % 2 ^ (8 * k) * 256 + n % 256 = ap (λ (j : ℕ). n % 2 ^ j) (sym e)
+    ∙ mod-pow-add n (8 * k) 8 in
     omega (arith, number-bytes k (n / 256), part)
 
 pub bytes-number : (b : List ℕ) → ((i : ℕ) → getD b i 0 < 256) → bytesOf (length b) (number b) ≡ b
@@ -64,7 +65,8 @@ number-below (suc k) (y ∷ b) e byte =
     omega (arith, rest, byte 0, shifted 1 k)
 
 -- Bytes with one more behind them are bytes.
-pub more-bytes : (b : List ℕ) (x : ℕ) → ((i : ℕ) → getD b i 0 < 256) → x < 256 → (i : ℕ) → getD (b ++ (x ∷ [])) i 0 < 256
+pub more-bytes : (b : List ℕ) (x : ℕ) → ((i : ℕ) → getD b i 0 < 256) → x < 256 → (i : ℕ)
+    → getD (b ++ (x ∷ [])) i 0 < 256
 more-bytes [] x byte small zero = small
 more-bytes [] x byte small (suc i) = omega arith
 more-bytes (y ∷ b) x byte small zero = byte 0

@@ -82,19 +82,22 @@ value-written f ok =
 read-back : (f : Fields) → fieldsFit f ≡ true → fieldsIn (kindOf f) (wordOf (written f)) ≡ f
 read-back f ok =
     let fits = both (fit (layout (kindOf f)) (valuesOf f)) (idFits f) ok .0 in
-    known f (wordOf (written f)) (gets (layout (kindOf f)) (valuesOf f) (wordOf (written f)) (tiled (kindOf f)) fits (value-written f ok))
+    known f (wordOf (written f)) (gets (layout (kindOf f)) (valuesOf f) (wordOf (written f)) (tiled (kindOf f)) fits
+    (value-written f ok))
 
 word-below : (b : List ℕ) → value (wordOf b) < 2 ^ 80
 unfolding wordOf
 word-below b = omega arith
 
-write-back : (k : WordKind) (b : List ℕ) → length b ≡ wordBytes → Bytes b → right (layout k) (wordOf b) ≡ true → written (fieldsIn k (wordOf b)) ≡ b
+write-back : (k : WordKind) (b : List ℕ) → length b ≡ wordBytes → Bytes b → right (layout k) (wordOf b) ≡ true
+    → written (fieldsIn k (wordOf b)) ≡ b
 unfolding written
 write-back k b ten byte r =
     let w = wordOf b in
     let is = whole b ten byte in
     let small : value w < 2 ^ 80 = word-below b in
-    ap (bytesOf wordBytes) ((λ i. put (layout (kind-in k w i)) (values-in k w i)) ∙ puts (layout k) w (tiled k) small r ∙ is)
+    ap (bytesOf wordBytes) ((λ i. put (layout (kind-in k w i)) (values-in k w i)) ∙ puts (layout k) w (tiled k) small r
+    ∙ is)
     ∙ ap (λ (n : ℕ). bytesOf n (number b)) (sym ten)
     ∙ bytes-number b byte
 
@@ -105,16 +108,19 @@ agrees K.Ihw w =
     tests-agree _ _ (λ e. let (i, r) = simp tests at e in simp tests ((r, (i, refl)), refl))
     (λ e. let ((r, (i, _)), _) = simp tests at e in simp tests (i, r))
 agrees K.Tdh w =
-    tests-agree _ _ (λ e. let (i, (a, (b, d))) = simp tests at e in simp tests ((omega arith, (omega arith, (omega arith, (i, refl)))), refl))
+    tests-agree _ _ (λ e. let (i, (a, (b, d))) = simp tests at e in
+    simp tests ((omega arith, (omega arith, (omega arith, (i, refl)))), refl))
     (λ e. let ((d, (b, (a, (i, _)))), _) = simp tests at e in simp tests (i, (omega arith, (omega arith, omega arith))))
 agrees K.Tdt w =
-    tests-agree _ _ (λ e. let (i, (a, (b, d))) = simp tests at e in simp tests ((omega arith, (omega arith, (omega arith, (i, refl)))), refl))
+    tests-agree _ _ (λ e. let (i, (a, (b, d))) = simp tests at e in
+    simp tests ((omega arith, (omega arith, (omega arith, (i, refl)))), refl))
     (λ e. let ((d, (b, (a, (i, _)))), _) = simp tests at e in simp tests (i, (omega arith, (omega arith, omega arith))))
 agrees K.Ddw0 w =
     tests-agree _ _ (λ e. let (i, (a, (b, d))) = simp tests at e in simp tests ((d, (a, (b, (i, refl)))), refl))
     (λ e. let ((d, (a, (b, (i, _)))), _) = simp tests at e in simp tests (i, (a, (b, d))))
 agrees K.Cdw w =
-    tests-agree _ _ (λ e. let i = simp tests at e in simp tests ((i, refl), refl)) (λ e. let ((i, _), _) = simp tests at e in simp tests i)
+    tests-agree _ _ (λ e. let i = simp tests at e in
+    simp tests ((i, refl), refl)) (λ e. let ((i, _), _) = simp tests at e in simp tests i)
 agrees K.Data w = refl
 
 accepted : (k : WordKind) (w : Word) → idFits (fieldsIn k w) ≡ true → fieldsFit (fieldsIn k w) ≡ true
@@ -125,6 +131,7 @@ round-trip k =
     record {
       reads-back = λ f is ok. subst (λ (j : WordKind). fieldsIn j (wordOf (written f)) ≡ f) is (read-back f ok);
       writes-back = λ b ten byte ok.
-          let (r, i) = both (right (layout k) (wordOf b)) (idFits (fieldsIn k (wordOf b))) (sym (agrees k (wordOf b)) ∙ ok) in
+          let (r, i) = both (right (layout k) (wordOf b)) (idFits (fieldsIn k (wordOf b)))
+          (sym (agrees k (wordOf b)) ∙ ok) in
           (accepted k (wordOf b) i, write-back k b ten byte r);
     }

@@ -33,7 +33,8 @@ and-false true = refl
 and-false false = refl
 
 -- The word of fields, by its halves.
-halves : (f : Fields) (w : Word) → numberOf f ≡ w .hi * 2 ^ 64 + w .lo → w .lo < 2 ^ 64 → w .hi < 2 ^ 16 → w ≡ wordFrom f
+halves : (f : Fields) (w : Word) → numberOf f ≡ w .hi * 2 ^ 64 + w .lo → w .lo < 2 ^ 64 → w .hi < 2 ^ 16
+    → w ≡ wordFrom f
 unfolding wordFrom written wordOf
 halves f w is low high =
     let n = number-bytes 10 (numberOf f) in
@@ -41,7 +42,8 @@ halves f w is low high =
     let hi : w .hi ≡ wordFrom f .hi = omega arith in
     λ i. record { lo = lo i; hi = hi i }
 
-pub is-packed : (f : Fields) (w : Word) → fieldsFit f ≡ true → numberOf f ≡ w .hi * 2 ^ 64 + w .lo → w .lo < 2 ^ 64 → w .hi < 2 ^ 16 → Is w ≡ packed f
+pub is-packed : (f : Fields) (w : Word) → fieldsFit f ≡ true → numberOf f ≡ w .hi * 2 ^ 64 + w .lo → w .lo < 2 ^ 64
+    → w .hi < 2 ^ 16 → Is w ≡ packed f
 is-packed f w fits is low high = simp (fits, halves f w is low high)
 
 pub not-packed : (f : Fields) → fieldsFit f ≡ false → Refused 8 ≡ packed f
@@ -151,7 +153,8 @@ ten w lo hi =
 
 -- What a packed word says of its fields, and what is then refused or written.
 pub packs : (f : Fields) {r : Packed} → r ≡ packed f → PackPost f r
-packs f {r} e = record { answer = e; number = ap refusalOf e ∙ at (fieldsFit f) .0; value = ap wordIn e ∙ at (fieldsFit f) .1 }
+packs f {r} e =
+    record { answer = e; number = ap refusalOf e ∙ at (fieldsFit f) .0; value = ap wordIn e ∙ at (fieldsFit f) .1 }
   where
     none : Word
     none = record { lo = 0; hi = 0 }
@@ -164,7 +167,8 @@ packs f {r} e = record { answer = e; number = ap refusalOf e ∙ at (fieldsFit f
 apart : (n : ℕ) (w : Word) → Refused n ≡ Is w → ⊥
 apart n w e = let z : _≡_ {A = ℕ} 0 1 = cc in omega arith
 
-pub refused-fields : (f : Fields) {r : Packed} (n : ℕ) (slice : List ℕ) → PackPost f r → r ≡ Refused n → Writes f slice 8 slice
+pub refused-fields : (f : Fields) {r : Packed} (n : ℕ) (slice : List ℕ) → PackPost f r → r ≡ Refused n
+    → Writes f slice 8 slice
 refused-fields f {r} n slice p is = at (fieldsFit f) refl
   where
     at : (b : Bool) → fieldsFit f ≡ b → Writes f slice 8 slice
@@ -178,12 +182,14 @@ fields-fit f {r} w p is = at (fieldsFit f) refl
     at true e = let same : Is w ≡ Is (wordFrom f) = sym is ∙ p .answer ∙ simp e in (e, cc)
     at false e = absurd (apart 8 w (sym (sym is ∙ p .answer ∙ simp e)))
 
-pub refused-length : (f : Fields) {r : Packed} (w : Word) (slice : List ℕ) → PackPost f r → r ≡ Is w → (length slice ≡ 10 → ⊥) → Writes f slice 1 slice
+pub refused-length : (f : Fields) {r : Packed} (w : Word) (slice : List ℕ) → PackPost f r → r ≡ Is w
+    → (length slice ≡ 10 → ⊥) → Writes f slice 1 slice
 refused-length f w slice p is h =
     let fits = fields-fit f w p is .0 in
     record { answer = simp (fits, ne-eqb _ _ h); slice-is = simp (fits, ne-eqb _ _ h) }
 
-pub wrote : (f : Fields) {r : Packed} (w : Word) (slice : List ℕ) {after : List ℕ} → PackPost f r → r ≡ Is w → length slice ≡ 10 → after ≡ bytesOf 10 (value w)
+pub wrote : (f : Fields) {r : Packed} (w : Word) (slice : List ℕ) {after : List ℕ} → PackPost f r → r ≡ Is w
+    → length slice ≡ 10 → after ≡ bytesOf 10 (value w)
     → Writes f slice 0 after
 unfolding written wordFrom
 wrote f w slice p is h e =
@@ -197,7 +203,8 @@ module _ (id : ℕ) (b : List ℕ) (nine : length b ≡ 9) (byte : Bytes b) wher
 
   value-is : value word ≡ number b
   value-is =
-      whole (b ++ (0 ∷ [])) (simp length-append (omega arith)) (more-bytes b 0 byte (omega arith)) ∙ number-more 9 b 0 nine ∙ omega arith
+      whole (b ++ (0 ∷ [])) (simp length-append (omega arith)) (more-bytes b 0 byte (omega arith))
+      ∙ number-more 9 b 0 nine ∙ omega arith
 
   low-small : word .lo < 2 ^ 64
   unfolding wordOf
@@ -221,15 +228,18 @@ module _ (id : ℕ) (b : List ℕ) (nine : length b ≡ 9) (byte : Bytes b) wher
       ∙ ap (λ (k : ℕ). bytesOf k (number (b ++ (id ∷ [])))) long
       ∙ bytes-number (b ++ (id ∷ [])) (more-bytes b id byte (data-byte id e))
 
-  pub data-wrote : (w : Word) {slice after : List ℕ} {r : ℕ} → w ≡ word → Writes (F.Data id (w .lo) (w .hi)) slice r after → WritesData id b slice r after
+  pub data-wrote : (w : Word) {slice after : List ℕ} {r : ℕ} → w ≡ word
+      → Writes (F.Data id (w .lo) (w .hi)) slice r after → WritesData id b slice r after
   data-wrote w {slice} {after} {r} is q = at (isDataId id) refl
     where
       p : Writes fields slice r after
       p = subst (λ (v : Word). Writes (F.Data id (v .lo) (v .hi)) slice r after) is q
 
       at : (y : Bool) → isDataId id ≡ y → WritesData id b slice r after
-      at true e = record { answer = p .answer ∙ simp (fits, eq-eqb _ _ nine); slice-is = p .slice-is ∙ simp (fits, as-it-came e, eq-eqb _ _ nine) }
-      at false e = record { answer = p .answer ∙ simp (fits, eq-eqb _ _ nine); slice-is = (rw fits at (p .slice-is)) ∙ simp (e, eq-eqb _ _ nine) }
+      at true e =
+          record { answer = p .answer ∙ simp (fits, eq-eqb _ _ nine); slice-is = p .slice-is ∙ simp (fits, as-it-came e, eq-eqb _ _ nine) }
+      at false e =
+          record { answer = p .answer ∙ simp (fits, eq-eqb _ _ nine); slice-is = (rw fits at (p .slice-is)) ∙ simp (e, eq-eqb _ _ nine) }
 
 pub data-refused : (id : ℕ) (b slice : List ℕ) → (length b ≡ 9 → ⊥) → WritesData id b slice 8 slice
 data-refused id b slice h = record { answer = simp (ne-eqb _ _ h); slice-is = simp (ne-eqb _ _ h) }

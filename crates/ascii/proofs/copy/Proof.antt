@@ -25,16 +25,19 @@ loop-again c = (
   omega arith,
   (
     simp length-set (c .before .before .loop .inv .1 .0),
-    copied (now (c .before .before .before .args .out)) (now (c .before .before .before .args .text)) (c .before .before .loop .i) (c .before .before .loop .out) (c .before .before .loop .inv .1 .1) (omega arith) (omega arith),
+    copied (now (c .before .before .before .args .out)) (now (c .before .before .before .args .text))
+        (c .before .before .loop .i) (c .before .before .loop .out) (c .before .before .loop .inv .1 .1) (omega arith)
+        (omega arith),
   ),
 )
 
 returns : tie.Need-returns Inv-loop μ-loop
 returns c =
-    all-copied (now (c .before .before .args .out)) (now (c .before .before .args .text)) (c .before .loop .i) (c .before .loop .out)
+    all-copied (now (c .before .before .args .out)) (now (c .before .before .args .text)) (c .before .loop .i)
+    (c .before .loop .out)
     (c .before .loop .inv .1 .1) (omega arith)
 
 pub copy-spec : {M : Type 1} → statement M
 copy-spec =
-    tie.close (tie.spec Inv-loop μ-loop loop-holds (λ c. search needs) (λ c. search needs) (λ c. search needs) (λ c. search needs) loop-again
-    (λ c. search needs) returns)
+    tie.close (tie.spec Inv-loop μ-loop loop-holds (λ c. search needs) (λ c. search needs) (λ c. search needs)
+    (λ c. search needs) loop-again (λ c. search needs) returns)

@@ -13,8 +13,8 @@ returns c = (rw (lt-ltb _ _ (c .if1 .taken)) (none-put (now (c .before .before .
 
 returns-2 : tie.Need-returns-2
 returns-2 c =
-    let c4 = c .before .before .before .before in
-    (rw (le-ltb _ _ (c4 .if1 .left)) (c .before .before .copy .ensures), omega (arith, c .before .before .copy .ensures .count))
+    let else1 : tie.Else1 = search in
+    (rw (le-ltb _ _ (else1 .if1 .left)) (c .before .before .copy .ensures), omega (arith, c .before .before .copy .ensures .count))
 
 pub put-spec : {M : Type 1} → statement M
 put-spec = tie.close (tie.spec returns (λ c. search needs) (λ c. search needs) returns-2)

@@ -16,10 +16,17 @@ copy-requires c κs = omega (arith, few (c .before .before), c .before .before .
 
 returns : tie.Need-returns
 returns c =
-    let low = few (c .before .before .before .before .before) in
-    let all = c .before .before .before .before .before .decimal .ensures .0 .1 in
-    let used = c .before .before .copy .ensures .count in
-    (decimal-put (c .before .before .before .before .before .decimal .last .1 .0) (c .before .before .before .before .before .before .before .before .args .n) (c .before .before .before .before .before .decimal .ensures .1 .0) (c .before .before .before .before .before .decimal .ensures .1 .1) (c .before .before .copy .ensures), omega arith)
+    let after-decimal : tie.After-decimal = search in
+    let start : tie.Start = search in
+    let low = few after-decimal in
+    let all = after-decimal .decimal .ensures .0 .1 in
+    let used = c .before .before .copy .ensures .count in (
+      decimal-put (after-decimal .decimal .last .1 .0) (start .args .n) (after-decimal .decimal .ensures .1 .0)
+          (after-decimal .decimal .ensures .1 .1) (c .before .before .copy .ensures),
+      omega arith,
+    )
 
 pub put-decimal-spec : {M : Type 1} → statement M
-put-decimal-spec = tie.close (tie.spec (λ c. search needs) (λ c. search needs) (λ c. search needs) copy-requires (λ c. search needs) returns)
+put-decimal-spec =
+    tie.close (tie.spec (λ c. search needs) (λ c. search needs) (λ c. search needs) copy-requires (λ c. search needs)
+    returns)

@@ -12,35 +12,40 @@ use Rattle.ascii.proofs.put_line.Tie as tie
 
 returns : tie.Need-returns
 returns c =
-    let c4 = c .before .before .before .before in
-    rw (lt-ltb (length (now (c4 .args .out))) (mostLine (now (c4 .args .name)) (now (c4 .args .numbers))) (omega (
+    let start : tie.Start = search in
+    rw (lt-ltb (length (now (start .args .out))) (mostLine (now (start .args .name)) (now (start .args .numbers)))
+    (omega (
       arith,
       c .if1 .taken,
-    ))) (none-put (now (c4 .args .out)))
+    ))) (none-put (now (start .args .out)))
 
 returns-2 : tie.Need-returns-2
 returns-2 c =
-    let c5 = c .before .before .before .before .before in
-    rw (lt-ltb (length (now (c5 .args .out))) (mostLine (now (c5 .args .name)) (now (c5 .args .numbers))) (omega (
+    let start : tie.Start = search in
+    rw (lt-ltb (length (now (start .args .out))) (mostLine (now (start .args .name)) (now (start .args .numbers)))
+    (omega (
       arith,
       c .if2 .taken,
-    ))) (none-put (now (c5 .args .out)))
+    ))) (none-put (now (start .args .out)))
 
 returns-3 : tie.Need-returns-3
 returns-3 c =
-    let c7 = c .before .before .before .before .before .before .before in
-    let c11 = c7 .before .before .before .before in
-    let c13 = c11 .before .before in
-    let c14 = c13 .before in
-    let c18 = c14 .before .before .before .before in
-    rw (le-ltb (length (now (c18 .args .out))) (mostLine (now (c18 .args .name)) (now (c18 .args .numbers))) (omega (
+    let after-put-numbers : tie.After-put-numbers = search in
+    let after-copy : tie.After-copy = search in
+    let else2 : tie.Else2 = search in
+    let else1 : tie.Else1 = search in
+    let start : tie.Start = search in
+    rw (le-ltb (length (now (start .args .out))) (mostLine (now (start .args .name)) (now (start .args .numbers)))
+    (omega (
       arith,
-      c14 .if1 .left,
-      c13 .if2 .left,
-    ))) (behind (behind (c11 .copy .ensures) (c7 .put-numbers .ensures .0)) (c .before .before .copy2 .ensures))
+      else1 .if1 .left,
+      else2 .if2 .left,
+    ))) (behind (behind (after-copy .copy .ensures) (after-put-numbers .put-numbers .ensures .0))
+    (c .before .before .copy2 .ensures))
 
 pub put-line-spec : {M : Type 1} → statement M
 put-line-spec =
-    tie.close (tie.spec (λ c. search needs) returns (λ c. search needs) (λ c. search needs) returns-2 (λ c. search needs) (λ c. search needs)
-    (λ c. search needs) (λ c. search needs) (λ c. search needs) (λ c. search needs) (λ c. search needs) (λ c. search needs) (λ c. search needs)
-    (λ c. search needs) (λ c. search needs) (λ c. search needs) (λ c. search needs) returns-3)
+    tie.close (tie.spec (λ c. search needs) returns (λ c. search needs) (λ c. search needs) returns-2
+    (λ c. search needs) (λ c. search needs) (λ c. search needs) (λ c. search needs) (λ c. search needs)
+    (λ c. search needs) (λ c. search needs) (λ c. search needs) (λ c. search needs) (λ c. search needs)
+    (λ c. search needs) (λ c. search needs) (λ c. search needs) returns-3)

@@ -13,15 +13,18 @@ returns c = (rw (lt-ltb _ _ (c .if1 .taken)) (none-put (now (c .before .before .
 
 returns-2 : tie.Need-returns-2
 returns-2 c =
-    let c4 = c .before .before .before .before in
-    let c6 = c4 .before .before in (
-      rw (le-ltb _ _ (c4 .if1 .left)) (set-behind (c6 .args .end) (c .before .before .put-decimal .ensures .0) (omega (
-        arith,
-        c .before .before .put-decimal .ensures .1,
-        c4 .if1 .left,
-      ))),
+    let else1 : tie.Else1 = search in
+    let start : tie.Start = search in (
+      rw (le-ltb _ _ (else1 .if1 .left)) (set-behind (start .args .end) (c .before .before .put-decimal .ensures .0)
+          (omega (
+            arith,
+            c .before .before .put-decimal .ensures .1,
+            else1 .if1 .left,
+          ))),
       omega (arith, c .before .before .put-decimal .ensures .1),
     )
 
 pub put-number-spec : {M : Type 1} → statement M
-put-number-spec = tie.close (tie.spec returns (λ c. search needs) (λ c. search needs) (λ c. search needs) (λ c. search needs) returns-2)
+put-number-spec =
+    tie.close (tie.spec returns (λ c. search needs) (λ c. search needs) (λ c. search needs) (λ c. search needs)
+    returns-2)

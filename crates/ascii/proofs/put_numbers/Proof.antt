@@ -15,34 +15,43 @@ use Rattle.ascii.proofs.put_numbers.Tie as tie
 
 abbrev Inv-loop : tie.InvT-loop
 Inv-loop out₀ numbers used₀ i₀ out used i =
-    (i ≤ length numbers) × ((used ≤ mostNumber * i) × ((length out ≡ length out₀) × Puts (spaced (take i numbers)) out₀ used out))
+    (i ≤ length numbers) × ((used ≤ mostNumber * i)
+    × ((length out ≡ length out₀) × Puts (spaced (take i numbers)) out₀ used out))
 
 abbrev μ-loop : tie.MeasureT-loop
 μ-loop out₀ numbers used₀ i₀ out used i = length numbers - i
 
 loop-holds : tie.Need-loop-holds Inv-loop μ-loop
-loop-holds c = (omega arith, (omega arith, (refl, none-spaced (now (c .before .before .args .numbers)) (now (c .before .before .args .out)))))
+loop-holds c =
+    (omega arith, (omega arith, (refl, none-spaced (now (c .before .before .args .numbers)) (now (c .before .before .args .out)))))
 
 loop-again : tie.Need-loop-again Inv-loop μ-loop
 loop-again c =
-    let c6 = c .before .before .before .before .before .before in
-    let c9 = c6 .before .before .before in (
+    let at-loop : tie.At-loop Inv-loop μ-loop = search in
+    let start : tie.Start Inv-loop μ-loop = search in (
       omega arith,
       (
         omega (arith, c .before .before .put-spaced .ensures .1),
         (
           search needs,
-          spaced-behind (now (c9 .args .numbers)) (c6 .loop .i) (omega arith) (c6 .loop .inv .1 .1 .1) (c .before .before .put-spaced .ensures .0),
+          spaced-behind (now (start .args .numbers)) (at-loop .loop .i) (omega arith) (at-loop .loop .inv .1 .1 .1)
+              (c .before .before .put-spaced .ensures .0),
         ),
       ),
     )
 
 returns : tie.Need-returns Inv-loop μ-loop
 returns c =
-    let e : c .before .loop .i ≡ length (now (c .before .before .before .before .args .numbers)) = omega arith in
-    (subst (λ (t : List ℕ). Puts (spaced t) (now (c .before .before .before .before .args .out)) (c .before .loop .used) (c .before .loop .out)) (ap (λ (n : ℕ). take n (now (c .before .before .before .before .args .numbers))) e ∙ take-length (now (c .before .before .before .before .args .numbers))) (c .before .loop .inv .1 .1 .1), omega arith)
+    let start : tie.Start Inv-loop μ-loop = search in
+    let e : c .before .loop .i ≡ length (now (start .args .numbers)) = omega arith in (
+      subst (λ (t : List ℕ). Puts (spaced t) (now (start .args .out)) (c .before .loop .used) (c .before .loop .out))
+          (ap (λ (n : ℕ). take n (now (start .args .numbers))) e ∙ take-length (now (start .args .numbers)))
+          (c .before .loop .inv .1 .1 .1),
+      omega arith,
+    )
 
 pub put-numbers-spec : {M : Type 1} → statement M
 put-numbers-spec =
-    tie.close (tie.spec Inv-loop μ-loop loop-holds (λ c. search needs) (λ c. search needs) (λ c. search needs) (λ c. search needs) (λ c. search needs)
-    (λ c. search needs) (λ c. search needs) (λ c. search needs) (λ c. search needs) loop-again (λ c. search needs) returns)
+    tie.close (tie.spec Inv-loop μ-loop loop-holds (λ c. search needs) (λ c. search needs) (λ c. search needs)
+    (λ c. search needs) (λ c. search needs) (λ c. search needs) (λ c. search needs) (λ c. search needs)
+    (λ c. search needs) loop-again (λ c. search needs) returns)

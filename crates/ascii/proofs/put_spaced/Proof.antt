@@ -8,16 +8,16 @@ use Rattle.ascii.proofs.put_spaced.Tie as tie
 
 returns : tie.Need-returns
 returns c =
-    let c6 = c .before .before .before .before .before .before in (
-      behind (c6 .copy .ensures) (c .before .before .put-decimal .ensures .0),
+    let after-copy : tie.After-copy = search in (
+      behind (after-copy .copy .ensures) (c .before .before .put-decimal .ensures .0),
       omega (
         arith,
-        c6 .copy .ensures .count,
+        after-copy .copy .ensures .count,
         c .before .before .put-decimal .ensures .1,
       ),
     )
 
 pub put-spaced-spec : {M : Type 1} → statement M
 put-spaced-spec =
-    tie.close (tie.spec (λ c. search needs) (λ c. search needs) (λ c. search needs) (λ c. search needs) (λ c. search needs) (λ c. search needs)
-    (λ c. search needs) (λ c. search needs) returns)
+    tie.close (tie.spec (λ c. search needs) (λ c. search needs) (λ c. search needs) (λ c. search needs)
+    (λ c. search needs) (λ c. search needs) (λ c. search needs) (λ c. search needs) returns)

@@ -15,7 +15,8 @@ use contract.Monad.{fact}
 use contract.Running.{givenOf, tables, tablesOf}
 use types.Kit.{Given, ‵, raw, _⊛_, some, later, _$_, _∵_, !, qed, by, move, use1, split, pick, await, rewrite}
 use types.Part.{whole, sub, look-in, agg}
-use types.Run.{look, init, forget, stop, fld, from, load, of-opd, and-then, no-more, assigns, land, returns, enter, alloc1, alloc0, params1, pass1, pass0, free1, free0}
+use types.Run.{look, init, forget, stop, fld, from, load, of-opd, and-then, no-more, assigns, land, returns, enter}
+use types.Run.{alloc1, alloc0, params1, pass1, pass0, free1, free0}
 use sound.WpLaws.{FmC, fmOf}
 use denote.Laws.{Is, shows}
 use denote.Plain.{uint-lawful}
@@ -47,7 +48,8 @@ cursor d = d .packet
 abbrev moved : FileReader → ℕ → FileReader
 moved d n = readerAt (d .bytes) n (d .word)
 
-module _ {M : Type 1} (𝓤 : URA M) (H : Heap 𝓤) (A : Atoms 𝓤) (W : Given 𝓤 H A) (κ : Lft) (q : Share) (d : FileReader) where
+module _ {M : Type 1} (𝓤 : URA M) (H : Heap 𝓤) (A : Atoms 𝓤) (W : Given 𝓤 H A) (κ : Lft) (q : Share)
+    (d : FileReader) where
   abbrev Past : Contract 𝓤
   Past = moving.Past pastPacket cursor moved 𝓤 H A
 
@@ -67,20 +69,35 @@ module _ {M : Type 1} (𝓤 : URA M) (H : Heap 𝓤) (A : Atoms 𝓤) (W : Given
   walk : (C : Calls 𝓤 H) (Λ : Loops 𝓤 H) → FmC 𝓤 H (W .laws) C → Triple 𝓤 (C step-def.name) Past
       → moving.Walk pastPacket cursor moved 𝓤 H A W κ q d C Λ code.function
   walk C Λ fm known wt =
-      qed W (raw (onEntry 𝓤 H A after.signature (κ, tt) (q, tt) (d, tt) (mach ∷ [], tt)) ∷ []) ∵ enter ! C Λ code.function (mach ∷ []) _ $
-      alloc1 ! (λ l₀. alloc1 ! (λ l₁. alloc1 ! (λ l₂. alloc1 ! (λ l₃. alloc1 ! (λ l₄. alloc1 ! (λ l₅. alloc1 ! (λ l₆. alloc0 ! $ params1 ! $ pass1 ! (init ! 10 refl wt) $ pass0 ! $
-      assigns ! (of-opd ! (load ! (from ! (fld ! refl (stop !))) (look-in ! 10 (sub ! 0 refl (whole !))))) (from ! (stop !)) (init ! 8 refl (tt, wt .1 .0)) $
-      assigns ! (of-opd ! (load ! (from ! (fld ! refl (stop !))) (look-in ! 10 (sub ! 0 refl (whole !))))) (from ! (stop !)) (init ! 4 refl (tt, wt .1 .0)) $
-      assigns ! (of-opd ! (load ! (from ! (fld ! refl (stop !))) (look-in ! 10 (sub ! 1 refl (whole !))))) (from ! (stop !)) (init ! 2 refl (tt, wt .1 .1 .0)) $
-      move ! (14 ∷ []) $ use1 W (raw (Past .pre to) ⊛ ‵ (held.Own κ d)) (moving.apart pastPacket cursor moved 𝓤 H A W κ q d (wt .1 .1 .0 .fits)) $ split ! $
-      calls-at ! fm Past known to (and-then ! (load ! (from ! (stop !)) (look ! 6 refl)) (and-then ! (load ! (from ! (stop !)) (look ! 4 refl)) (no-more !))) (λ u.
-      use1 W (later (some (λ (n : ℕ). ((‵ (flft κ q) ⊛ ‵ ftrue) ⊛ ‵ (usize .own n (u ∷ []))) ⊛ raw (ensured 𝓤 H A step.ended (moving.past-clauses pastPacket cursor moved 𝓤) (κ, tt) (d .bytes, (cursor d, tt)) tt n)))) (id⊢ 𝓤 _) $ await ! tt $ pick ! (λ n.
-      split ! $ move ! (1 ∷ []) $ use1 W (raw (fact 𝓤 (n ≡ on))) (moving.said pastPacket cursor moved 𝓤 H A W κ q d n) $ heard ! (n ≡ on) (λ e. split ! $ move ! (1 ∷ []) $
+      qed W (raw (onEntry 𝓤 H A after.signature (κ, tt) (q, tt) (d, tt) (mach ∷ [], tt)) ∷ []) ∵ enter ! C Λ
+      code.function (mach ∷ []) _ $
+      alloc1 ! (λ l₀. alloc1 ! (λ l₁. alloc1 !
+      (λ l₂. alloc1 ! (λ l₃. alloc1 ! (λ l₄. alloc1 !
+      (λ l₅. alloc1 ! (λ l₆. alloc0 ! $ params1 ! $ pass1 ! (init ! 10 refl wt) $ pass0 ! $
+      assigns ! (of-opd ! (load ! (from ! (fld ! refl (stop !))) (look-in ! 10 (sub ! 0 refl (whole !)))))
+      (from ! (stop !)) (init ! 8 refl (tt, wt .1 .0)) $
+      assigns ! (of-opd ! (load ! (from ! (fld ! refl (stop !))) (look-in ! 10 (sub ! 0 refl (whole !)))))
+      (from ! (stop !)) (init ! 4 refl (tt, wt .1 .0)) $
+      assigns ! (of-opd ! (load ! (from ! (fld ! refl (stop !))) (look-in ! 10 (sub ! 1 refl (whole !)))))
+      (from ! (stop !)) (init ! 2 refl (tt, wt .1 .1 .0)) $
+      move ! (14 ∷ []) $ use1 W (raw (Past .pre to) ⊛ ‵ (held.Own κ d))
+      (moving.apart pastPacket cursor moved 𝓤 H A W κ q d (wt .1 .1 .0 .fits)) $ split ! $
+      calls-at ! fm Past known to (and-then ! (load ! (from ! (stop !)) (look ! 6 refl))
+      (and-then ! (load ! (from ! (stop !)) (look ! 4 refl)) (no-more !))) (λ u.
+      use1 W (later (some (λ (n : ℕ). ((‵ (flft κ q) ⊛ ‵ ftrue) ⊛ ‵ (usize .own n (u ∷ []))) ⊛ raw
+      (ensured 𝓤 H A step.ended (moving.past-clauses pastPacket cursor moved 𝓤) (κ, tt)
+      (d .bytes, (cursor d, tt)) tt n)))) (id⊢ 𝓤 _) $ await ! tt $ pick ! (λ n.
+      split ! $ move ! (1 ∷ []) $ use1 W (raw (fact 𝓤 (n ≡ on))) (moving.said pastPacket cursor moved 𝓤 H A W κ q d n) $
+      heard ! (n ≡ on) (λ e. split ! $ move ! (1 ∷ []) $
       -- [the number; the token; what the struct owns; _6; …; _5; …; _4; …; _3; …; _2; …; _1; …; room for _0; …]
       peeks ! usize (Is usize) (shows 𝓤 H A usize) n (u ∷ []) (λ is.
-      land ! (from ! (stop !)) (init ! 9 refl (uint-lawful 𝓤 H A W w64 .typed n _ is .0)) $ rewrite ! 9 (λ (z : Val). ‵ (fat fullShare (tyInt w64) l₃ 0 z)) (ap only (is .0)) refl $
-      assigns ! (of-opd ! (load ! (from ! (fld ! refl (stop !))) (look-in ! 13 (sub ! 2 refl (whole !))))) (from ! (stop !)) (init ! 3 refl (tt, wt .1 .1 .1 .0)) $
-      assigns ! (agg ! (and-then ! (load ! (from ! (stop !)) (look ! 11 refl)) (and-then ! (load ! (from ! (stop !)) (look ! 9 refl)) (and-then ! (load ! (from ! (stop !)) (look ! 3 refl)) (no-more !))))) (from ! (stop !)) (init ! 15 refl (
+      land ! (from ! (stop !)) (init ! 9 refl (uint-lawful 𝓤 H A W w64 .typed n _ is .0)) $
+      rewrite ! 9 (λ (z : Val). ‵ (fat fullShare (tyInt w64) l₃ 0 z)) (ap only (is .0)) refl $
+      assigns ! (of-opd ! (load ! (from ! (fld ! refl (stop !))) (look-in ! 13 (sub ! 2 refl (whole !)))))
+      (from ! (stop !)) (init ! 3 refl (tt, wt .1 .1 .1 .0)) $
+      assigns ! (agg ! (and-then ! (load ! (from ! (stop !)) (look ! 11 refl))
+      (and-then ! (load ! (from ! (stop !)) (look ! 9 refl))
+      (and-then ! (load ! (from ! (stop !)) (look ! 3 refl)) (no-more !))))) (from ! (stop !)) (init ! 15 refl (
         tt,
         (
           wt .1 .0,
@@ -93,8 +110,11 @@ module _ {M : Type 1} (𝓤 : URA M) (H : Heap 𝓤) (A : Atoms 𝓤) (W : Given
           ),
         ),
       )) $
-      returns ! (look ! 15 refl) $ forget ! 3 refl $ forget ! 5 refl $ forget ! 7 refl $ forget ! 9 refl $ forget ! 11 refl $ forget ! 13 refl $ forget ! 15 refl $
-      move ! (15 ∷ 16 ∷ []) $ free1 ! $ move ! (13 ∷ 14 ∷ []) $ free1 ! $ move ! (11 ∷ 12 ∷ []) $ free1 ! $ move ! (9 ∷ 10 ∷ []) $ free1 ! $ move ! (7 ∷ 8 ∷ []) $ free1 ! $ move ! (5 ∷ 6 ∷ []) $ free1 ! $ move ! (3 ∷ 4 ∷ []) $ free1 ! $ free0 ! $
+      returns ! (look ! 15 refl) $ forget ! 3 refl $ forget ! 5 refl $ forget ! 7 refl $ forget ! 9 refl $
+      forget ! 11 refl $ forget ! 13 refl $ forget ! 15 refl $
+      move ! (15 ∷ 16 ∷ []) $ free1 ! $ move ! (13 ∷ 14 ∷ []) $ free1 ! $ move ! (11 ∷ 12 ∷ []) $ free1 ! $
+      move ! (9 ∷ 10 ∷ []) $ free1 ! $ move ! (7 ∷ 8 ∷ []) $ free1 ! $ move ! (5 ∷ 6 ∷ []) $ free1 ! $
+      move ! (3 ∷ 4 ∷ []) $ free1 ! $ free0 ! $
       by ! (moving.exits pastPacket cursor moved 𝓤 H A W κ q d put n u e (is .1)))))))))))))
 
 pub after-packet-spec : {M : Type 1} → stated.statement M
@@ -106,4 +126,5 @@ after-packet-spec 𝓤 H 𝓜 𝓖 𝓡 =
     (tables 𝓤 H 𝓜 𝓡 code.env .C) (tables 𝓤 H 𝓜 𝓡 code.env .Λ) key.name code.function (code.unfolded 𝓤 H 𝓜 𝓡)
     (moving.meets pastPacket cursor moved 𝓤 H (𝓖 .A) W 𝓣 code.function
     (λ κ q d. walk 𝓤 H (𝓖 .A) W κ q d (𝓣 .C) (𝓣 .Λ) (fmOf 𝓤 H (W .laws) 𝓣)
-    (cited 𝓤 H (Past 𝓤 H (𝓖 .A) W κ q d) 𝓜 𝓡 code.env step-def.name step-def.routine code.calls-bench-file·past-packet (step-thm.met 𝓤 H 𝓜 𝓖 𝓡))))
+    (cited 𝓤 H (Past 𝓤 H (𝓖 .A) W κ q d) 𝓜 𝓡 code.env step-def.name step-def.routine code.calls-bench-file·past-packet
+    (step-thm.met 𝓤 H 𝓜 𝓖 𝓡))))

@@ -12,7 +12,8 @@ use Rattle.bench_file.proofs.check.Statement.{statement}
 use Rattle.bench_file.proofs.check.Tie as tie
 
 returns : tie.Need-returns
-returns c = sym (refused-6 (now (c .before .before .before .args .file)) (sym (c .before .is-misfit .ensures) ∙ c .if1 .taken))
+returns c =
+    sym (refused-6 (now (c .before .before .before .args .file)) (sym (c .before .is-misfit .ensures) ∙ c .if1 .taken))
 
 -- Past the first test the length and the offsets are those of a file.
 fits : (c : tie.Else1) → misfit (now (c .before .before .before .args .file)) ≡ false
@@ -25,40 +26,52 @@ get32-requires c κs =
 
 sum-counts-requires : tie.Need-sum-counts-requires
 sum-counts-requires c κs =
-    let f = fitting (now (c .before .before .before .before .args .file)) (fits (c .before)) in
+    let start : tie.Start = search in
+    let f = fitting (now (start .args .file)) (fits (c .before)) in
     let e = c .get32 .ensures .0 in
     (omega arith, omega arith)
 
 get32-requires-2 : tie.Need-get32-requires-2
 get32-requires-2 c κs =
-    let f = fitting (now (c .before .before .before .before .before .args .file)) (fits (c .before .before)) in
+    let start : tie.Start = search in
+    let f = fitting (now (start .args .file)) (fits (c .before .before)) in
     omega arith
 
 -- The sum is that of all packets.
-sums : (c : tie.After-get322) → c .before .sum-counts .result
-    ≡ wordsBefore (now (c .before .before .before .before .before .before .args .file)) (packets (now (c .before .before .before .before .before .before .args .file)))
+sums : (c : tie.After-get322) → let start : tie.Start = search in
+    c .before .sum-counts .result ≡ wordsBefore (now (start .args .file)) (packets (now (start .args .file)))
 sums c =
-    let c6 = c .before .before .before .before .before .before in
-    c .before .sum-counts .ensures ∙ ap (wordsBefore (now (c6 .args .file))) (c .before .before .get32 .ensures .0)
+    let start : tie.Start = search in
+    c .before .sum-counts .ensures ∙ ap (wordsBefore (now (start .args .file))) (c .before .before .get32 .ensures .0)
 
 returns-2 : tie.Need-returns-2
 returns-2 c =
+    let else1 : tie.Else1 = search in
+    let start : tie.Start = search in
     sym
-    (refused-7 (now (c .before .before .before .before .before .before .before .args .file)) (fits (c .before .before .before .before))
+    (refused-7 (now (start .args .file)) (fits else1)
     (λ e. c .if2 .taken (sums (c .before) ∙ e ∙ sym (c .before .get322 .ensures .0))))
 
 first-refusal-requires : tie.Need-first-refusal-requires
 first-refusal-requires c κs =
-    let f = fitting (now (c .before .before .before .before .before .before .before .args .file)) (fits (c .before .before .before .before)) in
+    let else1 : tie.Else1 = search in
+    let start : tie.Start = search in
+    let f = fitting (now (start .args .file)) (fits else1) in
     let e = c .before .before .before .get32 .ensures .0 in
     omega arith
 
 returns-3 : tie.Need-returns-3
 returns-3 c =
-    let file = now (c .before .before .before .before .before .before .before .before .args .file) in
+    let after-get32 : tie.After-get32 = search in
+    let else1 : tie.Else1 = search in
+    let start : tie.Start = search in
+    let file = now (start .args .file) in
     c .first-refusal .ensures
-    ∙ ap (λ (n : ℕ). firstRefusal file n 0) (c .before .before .before .before .get32 .ensures .0)
-    ∙ sym (packets-checked file (fits (c .before .before .before .before .before)) (sym (sums (c .before .before)) ∙ c .before .if2 .left ∙ c .before .before .get322 .ensures .0))
+    ∙ ap (λ (n : ℕ). firstRefusal file n 0) (after-get32 .get32 .ensures .0)
+    ∙ sym (packets-checked file (fits else1)
+    (sym (sums (c .before .before)) ∙ c .before .if2 .left ∙ c .before .before .get322 .ensures .0))
 
 pub check-spec : {M : Type 1} → statement M
-check-spec = tie.close (tie.spec (search needs) returns get32-requires sum-counts-requires get32-requires-2 returns-2 first-refusal-requires returns-3)
+check-spec =
+    tie.close (tie.spec (search needs) returns get32-requires sum-counts-requires get32-requires-2 returns-2
+    first-refusal-requires returns-3)

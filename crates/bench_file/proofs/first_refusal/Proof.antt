@@ -22,18 +22,27 @@ loop-holds c = (omega arith, simp sub-zero)
 
 returns : tie.Need-returns Inv-loop μ-loop
 returns c =
-    let file = now (c .before .before .before .before .before .args .file) in
+    let start : tie.Start Inv-loop μ-loop = search in
+    let file = now (start .args .file) in
     let here = c .before .packet-refusal .ensures in
-    here ∙ sym (c .before .before .before .loop .inv .1 ∙ stopped file (c .before .before .before .before .before .args .packets) (c .before .before .before .loop .i) (c .before .before .loop-test .taken) (λ e. c .if1 .taken (here ∙ e)))
+    here ∙ sym (c .before .before .before .loop .inv .1
+    ∙ stopped file (start .args .packets) (c .before .before .before .loop .i) (c .before .before .loop-test .taken)
+    (λ e. c .if1 .taken (here ∙ e)))
 
 loop-again : tie.Need-loop-again Inv-loop μ-loop
 loop-again c =
-    let file = now (c .before .before .before .before .before .args .file) in
-    (omega arith, c .before .before .before .loop .inv .1 ∙ passed file (c .before .before .before .before .before .args .packets) (c .before .before .before .loop .i) (c .before .before .loop-test .taken) (sym (c .before .packet-refusal .ensures) ∙ c .if1 .left))
+    let start : tie.Start Inv-loop μ-loop = search in
+    let file = now (start .args .file) in (
+      omega arith,
+      c .before .before .before .loop .inv .1
+          ∙ passed file (start .args .packets) (c .before .before .before .loop .i) (c .before .before .loop-test .taken)
+          (sym (c .before .packet-refusal .ensures) ∙ c .if1 .left),
+    )
 
 returns-2 : tie.Need-returns-2 Inv-loop μ-loop
 returns-2 c =
-    sym (c .before .loop .inv .1 ∙ all-passed (now (c .before .before .before .args .file)) (c .before .before .before .args .packets)
+    sym (c .before .loop .inv .1 ∙ all-passed (now (c .before .before .before .args .file))
+    (c .before .before .before .args .packets)
     (c .before .loop .i) (omega arith))
 
 pub first-refusal-spec : {M : Type 1} → statement M

@@ -14,11 +14,12 @@ returns c = sym (packet-outside (now (c .before .before .args .file)) (c .before
 
 returns-2 : tie.Need-returns-2
 returns-2 c =
-    let c4 = c .before .before .before .before in
-    sym (packet-past (now (c4 .args .file)) (c4 .args .packet) (omega (arith, c .before .get32 .ensures .0)))
+    let start : tie.Start = search in
+    sym (packet-past (now (start .args .file)) (start .args .packet) (omega (arith, c .before .get32 .ensures .0)))
 
 returns-3 : tie.Need-returns-3
 returns-3 c = simp (← c .before .get32 .ensures .0, lt-ltb _ _ (c .if2 .left))
 
 pub has-packet-spec : {M : Type 1} → statement M
-has-packet-spec = tie.close (tie.spec returns (search needs) returns-2 (search needs) (search needs) (search needs) returns-3)
+has-packet-spec =
+    tie.close (tie.spec returns (search needs) returns-2 (search needs) (search needs) (search needs) returns-3)

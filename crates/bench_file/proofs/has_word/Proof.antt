@@ -14,13 +14,13 @@ returns c = sym (word-outside (now (c .before .before .args .file)) (c .before .
 
 returns-2 : tie.Need-returns-2
 returns-2 c =
-    let c4 = c .before .before .before .before in
-    sym (word-past (now (c4 .args .file)) (c4 .args .word) (omega (arith, c .before .get32 .ensures .0)))
+    let start : tie.Start = search in
+    sym (word-past (now (start .args .file)) (start .args .word) (omega (arith, c .before .get32 .ensures .0)))
 
 returns-3 : tie.Need-returns-3
 returns-3 c = simp (← c .get322 .ensures .0, ← c .before .before .get32 .ensures .0, lt-ltb _ _ (c .before .if2 .left))
 
 pub has-word-spec : {M : Type 1} → statement M
 has-word-spec =
-    tie.close (tie.spec returns (search needs) returns-2 (search needs) (search needs) (search needs) (search needs) (search needs)
-    (search needs) returns-3)
+    tie.close (tie.spec returns (search needs) returns-2 (search needs) (search needs) (search needs) (search needs)
+    (search needs) (search needs) returns-3)

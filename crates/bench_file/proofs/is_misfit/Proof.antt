@@ -13,9 +13,9 @@ returns c = simp (lt-ltb _ _ (c .if1 .taken))
 returns-2 : tie.Need-returns-2
 unfolding misfit
 returns-2 c =
-    let c4 = c .before .before .before .before in
+    let else1 : tie.Else1 = search in
     simp (
-      le-ltb _ _ (c4 .if1 .left),
+      le-ltb _ _ (else1 .if1 .left),
       c .before .before .before .get32 .ensures .0,
       c .before .before .get322 .ensures .0,
       c .before .get323 .ensures .0,
@@ -24,5 +24,5 @@ returns-2 c =
 
 pub is-misfit-spec : {M : Type 1} → statement M
 is-misfit-spec =
-    tie.close (tie.spec returns (search needs) (search needs) (search needs) (search needs) (search needs) (search needs) (search needs)
-    (search needs) returns-2)
+    tie.close (tie.spec returns (search needs) (search needs) (search needs) (search needs) (search needs) (search
+    needs) (search needs) (search needs) returns-2)

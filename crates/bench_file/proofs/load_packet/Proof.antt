@@ -6,13 +6,13 @@ use Rattle.bench_file.proofs.load_packet.Tie as tie
 
 returns : tie.Need-returns
 returns c =
-    let c4 = c .before .before .before .before in
-    let c5 = c4 .before in
-    let c6 = c5 .before in
+    let after-get322 : tie.After-get322 = search in
+    let after-get32 : tie.After-get32 = search in
+    let after-get64 : tie.After-get64 = search in
     simp (
-      c6 .get64 .ensures,
-      c5 .get32 .ensures .0,
-      c4 .get322 .ensures .0,
+      after-get64 .get64 .ensures,
+      after-get32 .get32 .ensures .0,
+      after-get322 .get322 .ensures .0,
       c .before .before .before .get16 .ensures .0,
       c .before .before .get162 .ensures .0,
       c .before .get8 .ensures .0,
@@ -21,6 +21,6 @@ returns c =
 
 pub load-packet-spec : {M : Type 1} → statement M
 load-packet-spec =
-    tie.close (tie.spec (search needs) (search needs) (search needs) (search needs) (search needs) (search needs) (search needs) (search needs)
-    (search needs) (search needs) (search needs) (search needs) (search needs) (search needs) (search needs) (search needs) (search needs)
-    (search needs) (search needs) returns)
+    tie.close (tie.spec (search needs) (search needs) (search needs) (search needs) (search needs) (search needs)
+    (search needs) (search needs) (search needs) (search needs) (search needs) (search needs) (search needs) (search
+    needs) (search needs) (search needs) (search needs) (search needs) (search needs) returns)

@@ -13,11 +13,14 @@ use borrow.Author.Needs.{needs}
 use Rattle.bench_file.proofs.packet_at.Statement.{statement}
 use Rattle.bench_file.proofs.packet_at.Tie as tie
 
-there : (c : tie.Then1) → hasPacket (now (c .before .before .before .args .file)) (c .before .before .before .args .packet) ≡ true
+there : (c : tie.Then1) → hasPacket (now (c .before .before .before .args .file))
+    (c .before .before .before .args .packet) ≡ true
 there c = sym (c .before .has-packet .ensures) ∙ c .if1 .taken
 
-inside : (c : tie.Then1) → packetPlace (c .before .before .before .args .packet) + packetBytes ≤ length (now (c .before .before .before .args .file))
-inside c = packet-inside (now (c .before .before .before .args .file)) (c .before .before .before .args .packet) (there c)
+inside : (c : tie.Then1) → packetPlace (c .before .before .before .args .packet) + packetBytes ≤ length
+    (now (c .before .before .before .args .file))
+inside c =
+    packet-inside (now (c .before .before .before .args .file)) (c .before .before .before .args .packet) (there c)
 
 mul-at : tie.Need-mul-at
 mul-at c = omega (arith, inside c)
@@ -36,8 +39,9 @@ get16-requires c κs = omega (arith, inside (c .before))
 
 returns : tie.Need-returns
 returns c =
-    let c5 = c .before .before .before .before .before in
-    packet-told (now (c5 .args .file)) (c5 .args .packet) (there (c .before .before)) (c .before .load-packet .ensures) (c .get16 .ensures .0)
+    let start : tie.Start = search in
+    packet-told (now (start .args .file)) (start .args .packet) (there (c .before .before))
+    (c .before .load-packet .ensures) (c .get16 .ensures .0)
 
 returns-2 : tie.Need-returns-2
 returns-2 c =
@@ -45,4 +49,6 @@ returns-2 c =
     (c .before .has-packet .ensures) ∙ c .if1 .left)
 
 pub packet-at-spec : {M : Type 1} → statement M
-packet-at-spec = tie.close (tie.spec (search needs) mul-at add-at load-packet-requires add-get16 get16-requires (search needs) returns returns-2)
+packet-at-spec =
+    tie.close (tie.spec (search needs) mul-at add-at load-packet-requires add-get16 get16-requires (search needs)
+    returns returns-2)

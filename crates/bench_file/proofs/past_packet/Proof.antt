@@ -10,11 +10,13 @@ use borrow.Author.Needs.{needs}
 use Rattle.bench_file.proofs.past_packet.Statement.{statement}
 use Rattle.bench_file.proofs.past_packet.Tie as tie
 
-there : (c : tie.Then1) → hasPacket (now (c .before .before .before .args .file)) (c .before .before .before .args .packet) ≡ true
+there : (c : tie.Then1) → hasPacket (now (c .before .before .before .args .file))
+    (c .before .before .before .args .packet) ≡ true
 there c = sym (c .before .has-packet .ensures) ∙ c .if1 .taken
 
 add-result : tie.Need-add-result
-add-result c = omega (arith, packet-inside (now (c .before .before .before .args .file)) (c .before .before .before .args .packet) (there c))
+add-result c =
+    omega (arith, packet-inside (now (c .before .before .before .args .file)) (c .before .before .before .args .packet) (there c))
 
 returns : tie.Need-returns
 unfolding pastPacket

@@ -10,11 +10,13 @@ use borrow.Author.Needs.{needs}
 use Rattle.bench_file.proofs.past_word.Statement.{statement}
 use Rattle.bench_file.proofs.past_word.Tie as tie
 
-there : (c : tie.Then1) → hasWord (now (c .before .before .before .args .file)) (c .before .before .before .args .word) ≡ true
+there : (c : tie.Then1) → hasWord (now (c .before .before .before .args .file))
+    (c .before .before .before .args .word) ≡ true
 there c = sym (c .before .has-word .ensures) ∙ c .if1 .taken
 
 add-result : tie.Need-add-result
-add-result c = omega (arith, word-inside (now (c .before .before .before .args .file)) (c .before .before .before .args .word) (there c))
+add-result c =
+    omega (arith, word-inside (now (c .before .before .before .args .file)) (c .before .before .before .args .word) (there c))
 
 returns : tie.Need-returns
 unfolding pastWord

@@ -11,7 +11,8 @@ use Rattle.bench_file.proofs.sum_counts.Statement.{statement}
 use Rattle.bench_file.proofs.sum_counts.Tie as tie
 
 abbrev Inv-loop : tie.InvT-loop
-Inv-loop file packets sum₀ packet₀ sum packet = (packet ≤ packets) × (sum ≡ wordsBefore file packet) × (sum ≤ 65535 * packet)
+Inv-loop file packets sum₀ packet₀ sum packet =
+    (packet ≤ packets) × (sum ≡ wordsBefore file packet) × (sum ≤ 65535 * packet)
 
 abbrev μ-loop : tie.MeasureT-loop
 μ-loop file packets sum₀ packet₀ sum packet = packets - packet
@@ -22,7 +23,8 @@ loop-holds c = search needs
 
 loop-again : tie.Need-loop-again Inv-loop μ-loop
 loop-again c =
-    let more = one-more (now (c .before .before .before .before .args .file)) (c .before .before .loop .packet) in
+    let start : tie.Start Inv-loop μ-loop = search in
+    let more = one-more (now (start .args .file)) (c .before .before .loop .packet) in
     (omega arith, omega (arith, c .get16 .ensures .0), omega (arith, c .get16 .ensures .1))
 
 returns : tie.Need-returns Inv-loop μ-loop
@@ -32,5 +34,5 @@ returns c =
 
 pub sum-counts-spec : {M : Type 1} → statement M
 sum-counts-spec =
-    tie.close (tie.spec Inv-loop μ-loop loop-holds (search needs) (search needs) (search needs) (search needs) (search needs) (search needs)
-    (search needs) loop-again returns)
+    tie.close (tie.spec Inv-loop μ-loop loop-holds (search needs) (search needs) (search needs) (search needs) (search
+    needs) (search needs) (search needs) loop-again returns)

@@ -28,7 +28,10 @@ word-after-spec 𝓤 H 𝓜 𝓖 𝓡 =
     entered 𝓤 H (tripleOf 𝓤 H (𝓖 .A) from.signature (from.spec 𝓤 H (𝓖 .A) (𝓜 .mem) (𝓡 .run)))
     (tables 𝓤 H 𝓜 𝓡 code.env .C) (tables 𝓤 H 𝓜 𝓡 code.env .Λ) key.name code.function (code.unfolded 𝓤 H 𝓜 𝓡)
     (meets move-def.name afterWord (λ (r : FileReader). r .word) 2 _ refl (λ d. refl)
-    (λ κ d vs is. LL.owed (T.the-type (namedLft 1 0 tt (κ, tt))) (T′.the-laws (namedLft 1 0 tt (κ, tt))) d vs is .1 .1 .0 .1)
+    (λ κ d vs is. LL.owed (T.the-type (namedLft 1 0 tt (κ, tt)))
+    (T′.the-laws (namedLft 1 0 tt (κ, tt))) d vs is .1 .1 .0 .1)
     𝓤 H (𝓖 .A) (givenOf 𝓤 H 𝓜 𝓖) (𝓜 .mem) (𝓡 .run) (tablesOf 𝓤 H 𝓜 (tables 𝓤 H 𝓜 𝓡 code.env))
-    (cited 𝓤 H (tripleOf 𝓤 H (𝓖 .A) new.signature (new.spec 𝓤 H (𝓖 .A) (𝓜 .mem) (𝓡 .run))) 𝓜 𝓡 code.env new-def.name new-def.routine code.calls-bench-file·reader-at (new-thm.met 𝓤 H 𝓜 𝓖 𝓡))
-    (cited 𝓤 H (tripleOf 𝓤 H (𝓖 .A) move.signature (move.spec 𝓤 H (𝓖 .A) (𝓜 .mem) (𝓡 .run))) 𝓜 𝓡 code.env move-def.name move-def.routine code.calls-bench-file·after-word (move-thm.met 𝓤 H 𝓜 𝓖 𝓡)))
+    (cited 𝓤 H (tripleOf 𝓤 H (𝓖 .A) new.signature (new.spec 𝓤 H (𝓖 .A) (𝓜 .mem) (𝓡 .run))) 𝓜 𝓡 code.env new-def.name
+    new-def.routine code.calls-bench-file·reader-at (new-thm.met 𝓤 H 𝓜 𝓖 𝓡))
+    (cited 𝓤 H (tripleOf 𝓤 H (𝓖 .A) move.signature (move.spec 𝓤 H (𝓖 .A) (𝓜 .mem) (𝓡 .run))) 𝓜 𝓡 code.env move-def.name
+    move-def.routine code.calls-bench-file·after-word (move-thm.met 𝓤 H 𝓜 𝓖 𝓡)))

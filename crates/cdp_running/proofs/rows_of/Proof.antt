@@ -6,7 +6,8 @@ use Rattle.cdp_running.proofs.rows_of.Statement.{statement}
 use Rattle.cdp_running.proofs.rows_of.Tie as tie
 
 returns : tie.Need-returns
-returns c = simp (c .before .before .before .enum-told .given .1, c .check-at-initial-ihw .ensures, c .before .is-three .ensures)
+returns c =
+    simp (c .before .before .before .enum-told .given .1, c .check-at-initial-ihw .ensures, c .before .is-three .ensures)
 
 returns-2 : tie.Need-returns-2
 returns-2 c = simp (c .before .enum-told2 .given .1, c .check-continuation .ensures)
@@ -33,8 +34,8 @@ returns-8 c = simp (c .before .enum-told7 .given .1, c .check-at-ddw0 .ensures)
 
 pub rows-of-spec : {M : Type 1} → statement M
 rows-of-spec =
-    tie.close
-    (tie.spec
-    (λ c. search needs) (λ c. search needs) (λ c. search needs) (λ c. search needs) (λ c. search needs) (λ c. search needs) (λ c. search needs)
-    (λ c. search needs) (λ c. search needs) (λ c. search needs) (λ c. search needs) (λ c. search needs) (λ c. search needs) (λ c. search needs)
-    (λ c. search needs) (λ c. search needs) returns returns-2 returns-3 returns-4 returns-5 returns-6 returns-7 returns-8)
+    tie.close (tie.spec (λ c. search needs) (λ c. search needs) (λ c. search needs) (λ c. search needs)
+    (λ c. search needs) (λ c. search needs) (λ c. search needs) (λ c. search needs) (λ c. search needs)
+    (λ c. search needs) (λ c. search needs) (λ c. search needs) (λ c. search needs) (λ c. search needs)
+    (λ c. search needs) (λ c. search needs) returns returns-2 returns-3 returns-4 returns-5 returns-6 returns-7
+    returns-8)

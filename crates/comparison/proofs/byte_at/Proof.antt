@@ -12,15 +12,18 @@ use borrow.Author.Needs.{needs}
 use Rattle.comparison.proofs.byte_at.Statement.{statement}
 use Rattle.comparison.proofs.byte_at.Tie as tie
 
-place-is : (c : tie.After-known-told) → c .before .at .given .0 .0
-    ≡ wordPlace (now (c .before .before .before .before .before .args .file)) (c .before .before .before .before .before .args .word)
-place-is c = let e = sym (c .before .at .given .1) ∙ c .before .before .before .word-at .ensures .answer ∙ word-found (now (c .before .before .before .before .before .args .file)) (c .before .before .before .before .before .args .word) (c .before .before .before .before .before .pre .0) in cc
+place-is : (c : tie.After-known-told) → let start : tie.Start = search in
+    c .before .at .given .0 .0 ≡ wordPlace (now (start .args .file)) (start .args .word)
+place-is c =
+    let start : tie.Start = search in
+    let e = sym (c .before .at .given .1) ∙ c .before .before .before .word-at .ensures .answer
+    ∙ word-found (now (start .args .file)) (start .args .word) (start .pre .0) in cc
 
-inside : (c : tie.After-known-told)
-    → c .before .at .given .0 .0 + c .before .before .before .before .before .args .byte + 1 ≤ length (now (c .before .before .before .before .before .args .file))
+inside : (c : tie.After-known-told) → let start : tie.Start = search in
+    c .before .at .given .0 .0 + start .args .byte + 1 ≤ length (now (start .args .file))
 inside c =
-    let c5 = c .before .before .before .before .before in
-    omega (arith, place-is c, word-inside (now (c5 .args .file)) (c5 .args .word) (c5 .pre .0), c5 .pre .1)
+    let start : tie.Start = search in
+    omega (arith, place-is c, word-inside (now (start .args .file)) (start .args .word) (start .pre .0), start .pre .1)
 
 add-result : tie.Need-add-result
 add-result c = omega (arith, inside c)
@@ -30,21 +33,23 @@ shared-slice-read-result c = omega (arith, inside (c .before))
 
 returns : tie.Need-returns
 returns c =
-    let c6 = c .before .before .before .before .before .before in
-    ap (λ (n : ℕ). getD (now (c6 .args .file)) (n + c6 .args .byte) 0) (place-is (c .before))
-    ∙ sym (byte (now (c6 .args .file)) (wordPlace (now (c6 .args .file)) (c6 .args .word) + c6 .args .byte))
+    let start : tie.Start = search in
+    ap (λ (n : ℕ). getD (now (start .args .file)) (n + start .args .byte) 0) (place-is (c .before))
+    ∙ sym (byte (now (start .args .file)) (wordPlace (now (start .args .file)) (start .args .word) + start .args .byte))
 
 returns-2 : tie.Need-returns-2
 returns-2 c =
-    let c4 = c .before .before .before .before in
-    let e = sym (c .enum-told .given .1) ∙ c .before .before .word-at .ensures .answer ∙ word-found (now (c4 .args .file)) (c4 .args .word) (c4 .pre .0) in
+    let start : tie.Start = search in
+    let e = sym (c .enum-told .given .1) ∙ c .before .before .word-at .ensures .answer
+    ∙ word-found (now (start .args .file)) (start .args .word) (start .pre .0) in
     let z : _≡_ {A = ℕ} 0 1 = cc in
     absurd (omega arith)
 
 returns-3 : tie.Need-returns-3
 returns-3 c =
-    let c4 = c .before .before .before .before in
-    let e = sym (c .enum-told2 .given .1) ∙ c .before .before .word-at .ensures .answer ∙ word-found (now (c4 .args .file)) (c4 .args .word) (c4 .pre .0) in
+    let start : tie.Start = search in
+    let e = sym (c .enum-told2 .given .1) ∙ c .before .before .word-at .ensures .answer
+    ∙ word-found (now (start .args .file)) (start .args .word) (start .pre .0) in
     let z : _≡_ {A = ℕ} 0 1 = cc in
     absurd (omega arith)
 

@@ -10,9 +10,9 @@ use Rattle.comparison.proofs.common_packets.Tie as tie
 
 returns : tie.Need-returns
 returns c =
-    let c5 = c .before .before .before .before .before in
-    let first = c .before .before .packet-count .ensures .0 ∙ counted-there (now (c5 .args .a)) 0 (c5 .pre .0) in
-    let second = c .before .packet-count2 .ensures .0 ∙ counted-there (now (c5 .args .b)) 0 (c5 .pre .1) in
+    let start : tie.Start = search in
+    let first = c .before .before .packet-count .ensures .0 ∙ counted-there (now (start .args .a)) 0 (start .pre .0) in
+    let second = c .before .packet-count2 .ensures .0 ∙ counted-there (now (start .args .b)) 0 (start .pre .1) in
     c .smaller .ensures ∙ (λ i. min (first i) (second i))
 
 pub common-packets-spec : {M : Type 1} → statement M

@@ -11,21 +11,24 @@ use Rattle.comparison.proofs.count_at.Tie as tie
 
 returns : tie.Need-returns
 returns c =
-    let c5 = c .before .before .before .before .before in
-    let e = sym (c .before .words .given .1) ∙ c .before .before .before .packet-at .ensures .answer ∙ packet-found (now (c5 .args .file)) (c5 .args .packet) (c5 .pre) in
+    let start : tie.Start = search in
+    let e = sym (c .before .words .given .1) ∙ c .before .before .before .packet-at .ensures .answer
+    ∙ packet-found (now (start .args .file)) (start .args .packet) (start .pre) in
     (cc, search needs)
 
 returns-2 : tie.Need-returns-2
 returns-2 c =
-    let c4 = c .before .before .before .before in
-    let e = sym (c .enum-told .given .1) ∙ c .before .before .packet-at .ensures .answer ∙ packet-found (now (c4 .args .file)) (c4 .args .packet) (c4 .pre) in
+    let start : tie.Start = search in
+    let e = sym (c .enum-told .given .1) ∙ c .before .before .packet-at .ensures .answer
+    ∙ packet-found (now (start .args .file)) (start .args .packet) (start .pre) in
     let z : _≡_ {A = ℕ} 0 1 = cc in
     absurd (omega arith)
 
 returns-3 : tie.Need-returns-3
 returns-3 c =
-    let c4 = c .before .before .before .before in
-    let e = sym (c .enum-told2 .given .1) ∙ c .before .before .packet-at .ensures .answer ∙ packet-found (now (c4 .args .file)) (c4 .args .packet) (c4 .pre) in
+    let start : tie.Start = search in
+    let e = sym (c .enum-told2 .given .1) ∙ c .before .before .packet-at .ensures .answer
+    ∙ packet-found (now (start .args .file)) (start .args .packet) (start .pre) in
     let z : _≡_ {A = ℕ} 0 1 = cc in
     absurd (omega arith)
 

@@ -13,22 +13,25 @@ use Rattle.comparison.proofs.field_at.Tie as tie
 
 returns : tie.Need-returns
 returns c =
-    let c4 = c .before .before .before .before in
-    let c6 = c4 .before .before in
-    let e = sym (c .before .before .packet .given .1) ∙ c4 .packet-at .ensures .answer ∙ packet-found (now (c6 .args .file)) (c6 .args .packet) (c6 .pre) in
-    c .field-of .ensures ∙ ap (λ (p : Packet). fieldOf p (c6 .args .field)) cc
+    let after-packet-at : tie.After-packet-at = search in
+    let start : tie.Start = search in
+    let e = sym (c .before .before .packet .given .1) ∙ after-packet-at .packet-at .ensures .answer
+    ∙ packet-found (now (start .args .file)) (start .args .packet) (start .pre) in
+    c .field-of .ensures ∙ ap (λ (p : Packet). fieldOf p (start .args .field)) cc
 
 returns-2 : tie.Need-returns-2
 returns-2 c =
-    let c4 = c .before .before .before .before in
-    let e = sym (c .enum-told .given .1) ∙ c .before .before .packet-at .ensures .answer ∙ packet-found (now (c4 .args .file)) (c4 .args .packet) (c4 .pre) in
+    let start : tie.Start = search in
+    let e = sym (c .enum-told .given .1) ∙ c .before .before .packet-at .ensures .answer
+    ∙ packet-found (now (start .args .file)) (start .args .packet) (start .pre) in
     let z : _≡_ {A = ℕ} 0 1 = cc in
     absurd (omega arith)
 
 returns-3 : tie.Need-returns-3
 returns-3 c =
-    let c4 = c .before .before .before .before in
-    let e = sym (c .enum-told2 .given .1) ∙ c .before .before .packet-at .ensures .answer ∙ packet-found (now (c4 .args .file)) (c4 .args .packet) (c4 .pre) in
+    let start : tie.Start = search in
+    let e = sym (c .enum-told2 .given .1) ∙ c .before .before .packet-at .ensures .answer
+    ∙ packet-found (now (start .args .file)) (start .args .packet) (start .pre) in
     let z : _≡_ {A = ℕ} 0 1 = cc in
     absurd (omega arith)
 

@@ -12,13 +12,14 @@ returns-2 : tie.Need-returns-2
 returns-2 c = simp (ne-eqb _ _ (c .before .before .if1 .left), eq-eqb _ _ (c .before .if2 .taken))
 
 returns-3 : tie.Need-returns-3
-returns-3 c = simp (ne-eqb _ _ (c .before .before .before .if1 .left), ne-eqb _ _ (c .before .before .if2 .left), eq-eqb _ _ (c .before .if3 .taken))
+returns-3 c =
+    simp (ne-eqb _ _ (c .before .before .before .if1 .left), ne-eqb _ _ (c .before .before .if2 .left), eq-eqb _ _ (c .before .if3 .taken))
 
 returns-4 : tie.Need-returns-4
 returns-4 c =
-    let c4 = c .before .before .before .before in
+    let else1 : tie.Else1 = search in
     simp (
-      ne-eqb _ _ (c4 .if1 .left),
+      ne-eqb _ _ (else1 .if1 .left),
       ne-eqb _ _ (c .before .before .before .if2 .left),
       ne-eqb _ _ (c .before .before .if3 .left),
       eq-eqb _ _ (c .before .if4 .taken),
@@ -26,11 +27,11 @@ returns-4 c =
 
 returns-5 : tie.Need-returns-5
 returns-5 c =
-    let c4 = c .before .before .before .before in
-    let c5 = c4 .before in
+    let else2 : tie.Else2 = search in
+    let else1 : tie.Else1 = search in
     simp (
-      ne-eqb _ _ (c5 .if1 .left),
-      ne-eqb _ _ (c4 .if2 .left),
+      ne-eqb _ _ (else1 .if1 .left),
+      ne-eqb _ _ (else2 .if2 .left),
       ne-eqb _ _ (c .before .before .before .if3 .left),
       ne-eqb _ _ (c .before .before .if4 .left),
       eq-eqb _ _ (c .before .if5 .taken),
@@ -38,13 +39,13 @@ returns-5 c =
 
 returns-6 : tie.Need-returns-6
 returns-6 c =
-    let c4 = c .before .before .before .before in
-    let c5 = c4 .before in
-    let c6 = c5 .before in
+    let else3 : tie.Else3 = search in
+    let else2 : tie.Else2 = search in
+    let else1 : tie.Else1 = search in
     simp (
-      ne-eqb _ _ (c6 .if1 .left),
-      ne-eqb _ _ (c5 .if2 .left),
-      ne-eqb _ _ (c4 .if3 .left),
+      ne-eqb _ _ (else1 .if1 .left),
+      ne-eqb _ _ (else2 .if2 .left),
+      ne-eqb _ _ (else3 .if3 .left),
       ne-eqb _ _ (c .before .before .before .if4 .left),
       ne-eqb _ _ (c .before .before .if5 .left),
       eq-eqb _ _ (c .before .if6 .taken),
@@ -52,13 +53,13 @@ returns-6 c =
 
 returns-7 : tie.Need-returns-7
 returns-7 c =
-    let c4 = c .before .before .before .before in
-    let c5 = c4 .before in
-    let c6 = c5 .before in
+    let else3 : tie.Else3 = search in
+    let else2 : tie.Else2 = search in
+    let else1 : tie.Else1 = search in
     simp (
-      ne-eqb _ _ (c6 .if1 .left),
-      ne-eqb _ _ (c5 .if2 .left),
-      ne-eqb _ _ (c4 .if3 .left),
+      ne-eqb _ _ (else1 .if1 .left),
+      ne-eqb _ _ (else2 .if2 .left),
+      ne-eqb _ _ (else3 .if3 .left),
       ne-eqb _ _ (c .before .before .before .if4 .left),
       ne-eqb _ _ (c .before .before .if5 .left),
       ne-eqb _ _ (c .before .if6 .left),
@@ -66,5 +67,5 @@ returns-7 c =
 
 pub field-of-spec : {M : Type 1} → statement M
 field-of-spec =
-    tie.close (tie.spec (λ c. search needs) (λ c. search needs) (λ c. search needs) (λ c. search needs) (λ c. search needs)
-    (λ c. search needs) returns returns-2 returns-3 returns-4 returns-5 returns-6 returns-7)
+    tie.close (tie.spec (λ c. search needs) (λ c. search needs) (λ c. search needs) (λ c. search needs)
+    (λ c. search needs) (λ c. search needs) returns returns-2 returns-3 returns-4 returns-5 returns-6 returns-7)

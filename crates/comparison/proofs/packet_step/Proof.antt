@@ -7,17 +7,20 @@ use Rattle.comparison.proofs.packet_step.Statement.{statement}
 use Rattle.comparison.proofs.packet_step.Tie as tie
 
 common-packets-requires : tie.Need-common-packets-requires
-common-packets-requires c κs = (omega (arith, header (c .before .before .pre .both) .0), omega (arith, header (c .before .before .pre .both) .1))
+common-packets-requires c κs =
+    (omega (arith, header (c .before .before .pre .both) .0), omega (arith, header (c .before .before .pre .both) .1))
 
 returns : tie.Need-returns
 returns c =
-    let c5 = c .before .before .before .before .before in
-    packet-more (now (c5 .args .a)) (now (c5 .args .b)) (c5 .args .l) (now (c5 .args .a)) (c .before .before .common-packets .ensures) (c .if1 .taken)
+    let start : tie.Start = search in
+    packet-more (now (start .args .a)) (now (start .args .b)) (start .args .l) (now (start .args .a))
+    (c .before .before .common-packets .ensures) (c .if1 .taken)
 
 returns-2 : tie.Need-returns-2
 returns-2 c =
-    let c5 = c .before .before .before .before .before in
-    packet-last (now (c5 .args .a)) (now (c5 .args .b)) (c5 .args .l) (now (c5 .args .a)) (c .before .before .common-packets .ensures) (c .if1 .left)
+    let start : tie.Start = search in
+    packet-last (now (start .args .a)) (now (start .args .b)) (start .args .l) (now (start .args .a))
+    (c .before .before .common-packets .ensures) (c .if1 .left)
 
 pub packet-step-spec : {M : Type 1} → statement M
 packet-step-spec = tie.close (tie.spec common-packets-requires returns returns-2)

@@ -6,9 +6,9 @@ use Rattle.data_ids.proofs.is_data_word_id.Tie as tie
 
 returns : tie.Need-returns
 returns c =
-    let c4 = c .before .before .before .before in
+    let after-within : tie.After-within = search in
     simp (
-      c4 .within .ensures,
+      after-within .within .ensures,
       c .before .before .before .within2 .ensures,
       c .before .before .within3 .ensures,
       c .before .within4 .ensures,
@@ -16,4 +16,5 @@ returns c =
     )
 
 pub is-data-word-id-spec : {M : Type 1} → statement M
-is-data-word-id-spec = tie.close (tie.spec (search needs) (search needs) (search needs) (search needs) (search needs) returns)
+is-data-word-id-spec =
+    tie.close (tie.spec (search needs) (search needs) (search needs) (search needs) (search needs) returns)

@@ -21,23 +21,26 @@ abbrev μ-loop : tie.MeasureT-loop
 
 array-share-prefix-out : tie.Need-array-share-prefix-out Inv-loop μ-loop
 array-share-prefix-out c =
-    let c5 = c .before .before .before .before .before in
-    omega (arith, step-fits (c .before .step .ensures) (c .before .step .kept .1 .1 .0), c .before .step .kept .1 .1 .0, c5 .loop .inv .1)
+    let at-loop : tie.At-loop Inv-loop μ-loop = search in
+    omega (arith, step-fits (c .before .step .ensures) (c .before .step .kept .1 .1 .0), c .before .step .kept .1 .1 .0, at-loop .loop .inv .1)
 
 slice-aggregate-text : tie.Need-slice-aggregate-text Inv-loop μ-loop
 slice-aggregate-text c =
-    front (c .before .before .step .result .n) (c .before .before .step .last .1 .1 .0) (step-fits (c .before .before .step .ensures)
+    front (c .before .before .step .result .n) (c .before .before .step .last .1 .1 .0)
+    (step-fits (c .before .before .step .ensures)
     (c .before .before .step .kept .1 .1 .0))
 
 loop-less : tie.Need-loop-less Inv-loop μ-loop
 loop-less c =
-    let c4 = c .before .before .before .before in
-    let c6 = c4 .before .before in
-    let c7 = c6 .before in
-    let c8 = c7 .before in
-    step-onward (c4 .step .ensures) (c8 .loop .inv .0) (sym (c7 .finished .ensures) ∙ not-true _ (c6 .if1 .taken)) (omega (arith, c8 .loop .inv .1))
+    let after-step : tie.After-step Inv-loop μ-loop = search in
+    let then1 : tie.Then1 Inv-loop μ-loop = search in
+    let after-finished : tie.After-finished Inv-loop μ-loop = search in
+    let at-loop : tie.At-loop Inv-loop μ-loop = search in
+    step-onward (after-step .step .ensures) (at-loop .loop .inv .0)
+    (sym (after-finished .finished .ensures) ∙ not-true _ (then1 .if1 .taken)) (omega (arith, at-loop .loop .inv .1))
 
 pub show-spec : {M : Type 1} → statement M
 show-spec =
     tie.close (tie.spec Inv-loop μ-loop (λ c. search needs) (λ c. search needs) (λ c. search needs) (λ c. search needs)
-    (λ c. search needs) array-share-prefix-out slice-aggregate-text (λ c. search needs) loop-less (λ c. search needs) (λ c. search needs))
+    (λ c. search needs) array-share-prefix-out slice-aggregate-text (λ c. search needs) loop-less (λ c. search needs)
+    (λ c. search needs))

@@ -14,17 +14,5 @@ abbrev μ-loop : tie.MeasureT-loop
 
 pub show-words-spec : {M : Type 1} → statement M
 show-words-spec =
-    tie.close
-    (tie.spec
-    Inv-loop
-    μ-loop
-    (search needs)
-    (search needs)
-    (search needs)
-    (search needs)
-    (search needs)
-    (search needs)
-    (search needs)
-    (search needs)
-    (search needs)
-    (search needs))
+    tie.close (tie.spec Inv-loop μ-loop (search needs) (search needs) (search needs) (search needs) (search needs)
+    (search needs) (search needs) (search needs) (search needs) (search needs))

@@ -7,12 +7,17 @@ use Rattle.in_place.proofs.packet.Statement.{statement}
 use Rattle.in_place.proofs.packet.Tie as tie
 
 returns : tie.Need-returns
-returns c = packet-refused (now (c .before .before .before .args .a)) (c .before .before .before .pre) _ (c .before .are-in-range .ensures) (c .if1 .taken)
+returns c =
+    packet-refused (now (c .before .before .before .args .a)) (c .before .before .before .pre) _
+    (c .before .are-in-range .ensures) (c .if1 .taken)
 
 returns-2 : tie.Need-returns-2
 returns-2 c =
-    let c6 = c .before .before .before .before .before .before in
-    packet-done (now (c6 .before .args .a)) (c6 .before .pre) _ (c .before .before .before .before .before .are-in-range .ensures) (c .before .before .before .before .if1 .left) (c .before .before .packet .ensures)
+    let else1 : tie.Else1 = search in
+    let after-are-in-range : tie.After-are-in-range = search in
+    let start : tie.Start = search in
+    packet-done (now (start .args .a)) (start .pre) _ (after-are-in-range .are-in-range .ensures) (else1 .if1 .left)
+    (c .before .before .packet .ensures)
 
 pub packet-spec : {M : Type 1} → statement M
 packet-spec = tie.close (tie.spec (λ c. search needs) returns (λ c. search needs) (λ c. search needs) returns-2)

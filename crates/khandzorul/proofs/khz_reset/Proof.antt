@@ -8,20 +8,22 @@ use Rattle.khandzorul.proofs.khz_reset.Tie as tie
 
 returns : tie.Need-returns
 returns c =
-    let c4 = c .before .before .before .before in
-    reset-none (now (c4 .args .tracker)) (c .before .is-tracker .ensures) (c .if1 .taken)
+    let start : tie.Start = search in
+    reset-none (now (start .args .tracker)) (c .before .is-tracker .ensures) (c .if1 .taken)
 
 reset-requires : tie.Need-reset-requires
 reset-requires c κs =
-    let c5 = c .before .before .before .before .before in
-    is-good (now (c5 .args .tracker)) (c .before .before .is-tracker .ensures) (c .before .if1 .left)
+    let start : tie.Start = search in
+    is-good (now (start .args .tracker)) (c .before .before .is-tracker .ensures) (c .before .if1 .left)
 
 returns-2 : tie.Need-returns-2
 returns-2 c =
-    let c6 = c .before .before .before .before .before .before in
-    reset-done (now (c6 .before .before .args .tracker)) (c .before .before .before .before .before .is-tracker .ensures) (c .before .before .before .before .if1 .left) (c .before .before .reset .ensures)
+    let else1 : tie.Else1 = search in
+    let after-is-tracker : tie.After-is-tracker = search in
+    let start : tie.Start = search in
+    reset-done (now (start .args .tracker)) (after-is-tracker .is-tracker .ensures) (else1 .if1 .left)
+    (c .before .before .reset .ensures)
 
 pub khz-reset-spec : {M : Type 1} → statement M
 khz-reset-spec =
-    tie.close
-    (tie.spec (λ c. search needs) (λ c. search needs) returns reset-requires (λ c. search needs) returns-2)
+    tie.close (tie.spec (λ c. search needs) (λ c. search needs) returns reset-requires (λ c. search needs) returns-2)

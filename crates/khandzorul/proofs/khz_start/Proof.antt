@@ -11,11 +11,14 @@ returns c = start-none (now (c .before .before .args .tracker)) _ (c .if1 .taken
 
 returns-2 : tie.Need-returns-2
 returns-2 c =
-    let c4 = c .before .before .before .before in
-    start-refused (now (c4 .args .tracker)) _ (c .before .before .if1 .left) (c .before .are-settings .ensures) (c .if2 .taken)
+    let start : tie.Start = search in
+    start-refused (now (start .args .tracker)) _ (c .before .before .if1 .left) (c .before .are-settings .ensures)
+    (c .if2 .taken)
 
 period-of-requires : tie.Need-period-of-requires
-period-of-requires c κs = let s = c .before .before .before .before .args in
+period-of-requires c κs =
+    let start : tie.Start = search in
+    let s = start .args in
     settings-fit (now (s .tracker)) (record {
       running =
           s .running;
@@ -28,11 +31,18 @@ period-of-requires c κs = let s = c .before .before .before .before .args in
 
 returns-3 : tie.Need-returns-3
 returns-3 c =
-    let c6 = c .before .before .before .before .before .before in
-    start-done (now (c6 .before .before .before .before .before .args .tracker)) _ (c6 .before .before .before .if1 .left) (c6 .before .before .are-settings .ensures) (c6 .before .if2 .left) (c6 .period-of .ensures) (c .before .before .before .before .before .rule-of .ensures)
-    (c .before .before .before .before .start .ensures .0) (c .before .before .encode .ensures)
+    let after-start : tie.After-start = search in
+    let after-rule-of : tie.After-rule-of = search in
+    let after-period-of : tie.After-period-of = search in
+    let else2 : tie.Else2 = search in
+    let after-are-settings : tie.After-are-settings = search in
+    let else1 : tie.Else1 = search in
+    let start : tie.Start = search in
+    start-done (now (start .args .tracker)) _ (else1 .if1 .left) (after-are-settings .are-settings .ensures)
+    (else2 .if2 .left) (after-period-of .period-of .ensures) (after-rule-of .rule-of .ensures)
+    (after-start .start .ensures .0) (c .before .before .encode .ensures)
 
 pub khz-start-spec : {M : Type 1} → statement M
 khz-start-spec =
-    tie.close
-    (tie.spec returns (λ c. search needs) returns-2 period-of-requires (λ c. search needs) (λ c. search needs) (λ c. search needs) (λ c. search needs) returns-3)
+    tie.close (tie.spec returns (λ c. search needs) returns-2 period-of-requires (λ c. search needs) (λ c. search needs)
+    (λ c. search needs) (λ c. search needs) returns-3)

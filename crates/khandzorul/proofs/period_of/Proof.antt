@@ -16,5 +16,4 @@ returns-2 c = simp (ne-eqb _ _ (c .if1 .left))
 
 pub period-of-spec : {M : Type 1} → statement M
 period-of-spec =
-    tie.close
-    (tie.spec cast-result returns returns-2)
+    tie.close (tie.spec cast-result returns returns-2)

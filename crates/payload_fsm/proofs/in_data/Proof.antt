@@ -7,9 +7,9 @@ use Rattle.payload_fsm.proofs.in_data.Tie as tie
 
 returns : tie.Need-returns
 returns c =
-    let c4 = c .before .before .before .before in
+    let after-id : tie.After-id = search in
     simp (
-      ← c4 .id .ensures,
+      ← after-id .id .ensures,
       eq-eqb _ _ (c .before .before .before .if1 .taken),
       ← c .before .before .packet-done .ensures,
       c .before .if2 .taken,
@@ -18,9 +18,9 @@ returns c =
 
 returns-2 : tie.Need-returns-2
 returns-2 c =
-    let c4 = c .before .before .before .before in
+    let after-id : tie.After-id = search in
     simp (
-      ← c4 .id .ensures,
+      ← after-id .id .ensures,
       eq-eqb _ _ (c .before .before .before .if1 .taken),
       ← c .before .before .packet-done .ensures,
       c .before .if2 .left,
@@ -28,15 +28,16 @@ returns-2 c =
     )
 
 returns-3 : tie.Need-returns-3
-returns-3 c = simp (← c .before .before .before .id .ensures, ne-eqb _ _ (c .before .before .if1 .left), eq-eqb _ _ (c .before .if3 .taken), c .taken3 .ensures)
+returns-3 c =
+    simp (← c .before .before .before .id .ensures, ne-eqb _ _ (c .before .before .if1 .left), eq-eqb _ _ (c .before .if3 .taken), c .taken3 .ensures)
 
 returns-4 : tie.Need-returns-4
 returns-4 c =
-    let c4 = c .before .before .before .before in
-    let c5 = c4 .before in
+    let else1 : tie.Else1 = search in
+    let after-id : tie.After-id = search in
     simp (
-      ← c5 .id .ensures,
-      ne-eqb _ _ (c4 .if1 .left),
+      ← after-id .id .ensures,
+      ne-eqb _ _ (else1 .if1 .left),
       ne-eqb _ _ (c .before .before .before .if3 .left),
       ← c .before .before .is-data-word-id .ensures,
       c .before .if4 .taken,
@@ -45,11 +46,11 @@ returns-4 c =
 
 returns-5 : tie.Need-returns-5
 returns-5 c =
-    let c4 = c .before .before .before .before in
-    let c5 = c4 .before in
+    let else1 : tie.Else1 = search in
+    let after-id : tie.After-id = search in
     simp (
-      ← c5 .id .ensures,
-      ne-eqb _ _ (c4 .if1 .left),
+      ← after-id .id .ensures,
+      ne-eqb _ _ (else1 .if1 .left),
       ne-eqb _ _ (c .before .before .before .if3 .left),
       ← c .before .before .is-data-word-id .ensures,
       c .before .if4 .left,
@@ -58,5 +59,5 @@ returns-5 c =
 
 pub in-data-spec : {M : Type 1} → statement M
 in-data-spec =
-    tie.close (tie.spec (search needs) (search needs) (search needs) returns (search needs) returns-2 (search needs) returns-3 (search needs)
-    (search needs) returns-4 (search needs) returns-5)
+    tie.close (tie.spec (search needs) (search needs) (search needs) returns (search needs) returns-2 (search needs)
+    returns-3 (search needs) (search needs) returns-4 (search needs) returns-5)

@@ -6,16 +6,18 @@ use Rattle.payload_fsm.proofs.in_three.Statement.{statement}
 use Rattle.payload_fsm.proofs.in_three.Tie as tie
 
 returns : tie.Need-returns
-returns c = simp (← c .before .before .before .id .ensures, eq-eqb _ _ (c .before .before .if1 .taken), c .taken .ensures, c .before .after-tdh .ensures)
+returns c =
+    simp (← c .before .before .before .id .ensures, eq-eqb _ _ (c .before .before .if1 .taken), c .taken .ensures, c .before .after-tdh .ensures)
 
 returns-2 : tie.Need-returns-2
-returns-2 c = simp (← c .before .before .before .id .ensures, ne-eqb _ _ (c .before .before .if1 .left), eq-eqb _ _ (c .before .if2 .taken), c .taken2 .ensures)
+returns-2 c =
+    simp (← c .before .before .before .id .ensures, ne-eqb _ _ (c .before .before .if1 .left), eq-eqb _ _ (c .before .if2 .taken), c .taken2 .ensures)
 
 returns-3 : tie.Need-returns-3
 returns-3 c =
-    let c4 = c .before .before .before .before in
+    let after-id : tie.After-id = search in
     simp (
-      ← c4 .id .ensures,
+      ← after-id .id .ensures,
       ne-eqb _ _ (c .before .before .before .if1 .left),
       ne-eqb _ _ (c .before .before .if2 .left),
       eq-eqb _ _ (c .before .if3 .taken),
@@ -24,9 +26,9 @@ returns-3 c =
 
 returns-4 : tie.Need-returns-4
 returns-4 c =
-    let c4 = c .before .before .before .before in
+    let after-id : tie.After-id = search in
     simp (
-      ← c4 .id .ensures,
+      ← after-id .id .ensures,
       ne-eqb _ _ (c .before .before .before .if1 .left),
       ne-eqb _ _ (c .before .before .if2 .left),
       ne-eqb _ _ (c .before .if3 .left),
@@ -35,5 +37,5 @@ returns-4 c =
 
 pub in-three-spec : {M : Type 1} → statement M
 in-three-spec =
-    tie.close (tie.spec (search needs) (search needs) (search needs) returns (search needs) returns-2 (search needs) returns-3
-    (search needs) returns-4)
+    tie.close (tie.spec (search needs) (search needs) (search needs) returns (search needs) returns-2 (search needs)
+    returns-3 (search needs) returns-4)

@@ -24,13 +24,15 @@ loop-holds c = (omega arith, (omega arith, refl))
 
 loop-again : tie.Need-loop-again Inv-loop μ-loop
 loop-again c =
-    let more = count-more (c .before .before .before .before .args .t1) (c .before .before .before .loop .i) none (search needs) in
+    let start : tie.Start Inv-loop μ-loop = search in
+    let more = count-more (start .args .t1) (c .before .before .before .loop .i) none (search needs) in
     (omega arith, ⊎-elim (λ w. let m = rw (w .0 .taken) at more in omega arith) (λ w. let m = rw (w .0 .left) at more in omega arith) (c .if1 .came))
 
 returns : tie.Need-returns Inv-loop μ-loop
-returns c = c .before .loop .inv .1 .1 ∙ ap count (take-all (c .before .loop .i) (c .before .before .args .t1) (search needs))
+returns c =
+    c .before .loop .inv .1 .1 ∙ ap count (take-all (c .before .loop .i) (c .before .before .args .t1) (search needs))
 
 pub count-spec : {M : Type 1} → statement M
 count-spec =
-    tie.close (tie.spec Inv-loop μ-loop loop-holds (λ c. search needs) (λ c. search needs) (λ c. search needs) (λ c. search needs)
-    (λ c. search needs) loop-again returns)
+    tie.close (tie.spec Inv-loop μ-loop loop-holds (λ c. search needs) (λ c. search needs) (λ c. search needs)
+    (λ c. search needs) (λ c. search needs) loop-again returns)

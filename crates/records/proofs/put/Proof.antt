@@ -24,4 +24,6 @@ returns c =
     sets-eq (a .position ∷ a .row .code ∷ a .row .first ∷ a .row .second ∷ []) (now (a .out)) 0 (omega arith)
 
 pub put-spec : {M : Type 1} → statement M
-put-spec = tie.close (tie.spec (λ c. search needs) slice-write-out-2 slice-write-out-3 slice-write-out-4 (λ c. search needs) returns)
+put-spec =
+    tie.close (tie.spec (λ c. search needs) slice-write-out-2 slice-write-out-3 slice-write-out-4 (λ c. search needs)
+    returns)

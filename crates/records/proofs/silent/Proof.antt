@@ -24,12 +24,17 @@ loop-holds c = (omega arith, refl)
 
 loop-again : tie.Need-loop-again Inv-loop μ-loop
 loop-again c =
+    let start : tie.Start Inv-loop μ-loop = search in
     let l = c .before .before .before .loop in
-    let rows = c .before .before .before .before .args .t1 in
+    let rows = start .args .t1 in
     (omega arith, ap (λ (b : Bool). b || getD rows (l .i) none .on) (l .inv .1) ∙ sym (any-more rows (l .i) none (search needs)))
 
 returns : tie.Need-returns Inv-loop μ-loop
-returns c = ap not (c .before .loop .inv .1 ∙ ap anyOn (take-all (c .before .loop .i) (c .before .before .args .t1) (search needs)))
+returns c =
+    ap not (c .before .loop .inv .1 ∙ ap anyOn
+    (take-all (c .before .loop .i) (c .before .before .args .t1) (search needs)))
 
 pub silent-spec : {M : Type 1} → statement M
-silent-spec = tie.close (tie.spec Inv-loop μ-loop loop-holds (λ c. search needs) (λ c. search needs) (λ c. search needs) (λ c. search needs) loop-again returns)
+silent-spec =
+    tie.close (tie.spec Inv-loop μ-loop loop-holds (λ c. search needs) (λ c. search needs) (λ c. search needs)
+    (λ c. search needs) loop-again returns)

@@ -7,7 +7,7 @@ use Prim.Native.Nat.{_+_, _-_, _≤_}
 use lib.ListN.{length}
 use Rattle.records.specs.Records.{recordWidth, mostRecords}
 use Rattle.records.proofs.Given.{counted}
-use Rattle.records.proofs.Writing.{Going, start, skip, has-room, more, tail-long, refused, written}
+use Rattle.records.proofs.Writing.{Going, begins, skip, has-room, more, tail-long, refused, written}
 use native.Mathlib.Omega.{arith}
 use Rattle.records.proofs.write.Statement.{statement}
 use Rattle.records.proofs.write.Tie as tie
@@ -20,19 +20,23 @@ abbrev μ-loop : tie.MeasureT-loop
 
 returns : tie.Need-returns Inv-loop μ-loop
 returns c =
-    let s = c .before .before .before in
-    refused (s .args .position) (s .args .t3) (now (s .args .out)) (omega (arith, c .before .count .ensures, c .if1 .taken))
+    refused (c .before .before .before .args .position) (c .before .before .before .args .t3)
+    (now (c .before .before .before .args .out)) (omega (arith, c .before .count .ensures, c .if1 .taken))
 
 loop-holds : tie.Need-loop-holds Inv-loop μ-loop
 loop-holds c =
-    let s = c .before .before .before in
-    start (s .args .position) (s .args .t3) (now (s .args .out)) (omega (arith, counted (s .args .position) (s .args .t3), c .before .count .ensures))
+    begins (c .before .before .before .args .position) (c .before .before .before .args .t3)
+    (now (c .before .before .before .args .out))
+    (omega (arith, counted (c .before .before .before .args .position) (c .before .before .before .args .t3), c .before .count .ensures))
 
-fits : (c : tie.Then2 Inv-loop μ-loop) → c .before .before .before .loop .used + recordWidth ≤ length (c .before .before .before .loop .out)
+fits : (c : tie.Then2 Inv-loop μ-loop) → c .before .before .before .loop .used + recordWidth ≤ length
+    (c .before .before .before .loop .out)
 fits c = has-room (c .before .before .before .loop .inv) (search needs) (c .if2 .taken)
 
 mul-put : tie.Need-mul-put Inv-loop μ-loop
-mul-put c = omega (arith, fits c, c .before .before .before .before .before .before .before .good .0)
+mul-put c =
+    let start : tie.Start Inv-loop μ-loop = search in
+    omega (arith, fits c, start .good .0)
 
 sub-put : tie.Need-sub-put Inv-loop μ-loop
 sub-put c = omega (arith, fits c)
@@ -42,28 +46,31 @@ part-put-start c = omega (arith, fits c)
 
 put-requires : tie.Need-put-requires Inv-loop μ-loop
 put-requires c κs =
-    let c4 = c .before .before .before .before in
-    tail-long (c4 .loop .used) recordWidth (c4 .loop .out) (fits (c .before))
+    let at-loop : tie.At-loop Inv-loop μ-loop = search in
+    tail-long (at-loop .loop .used) recordWidth (at-loop .loop .out) (fits (c .before))
 
 add-used : tie.Need-add-used Inv-loop μ-loop
 add-used c =
-    let c4 = c .before .before .before .before in
-    let c11 = c4 .before .before .before .before .before .before .before in
-    omega (arith, fits (c4), c11 .good .0)
+    let then2 : tie.Then2 Inv-loop μ-loop = search in
+    let start : tie.Start Inv-loop μ-loop = search in
+    omega (arith, fits then2, start .good .0)
 
 loop-again : tie.Need-loop-again Inv-loop μ-loop
 loop-again c =
-    ⊎-elim (λ w. more (c .before .before .before .loop .inv) (search needs) (w .0 .taken) (w .2 .ensures) (w .5) (w .6)) (λ w. skip (c .before .before .before .loop .inv) (search needs) (w .0 .left) (w .1) (w .2)) (c .if2 .came)
+    ⊎-elim (λ w. more (c .before .before .before .loop .inv) (search needs) (w .0 .taken) (w .2 .ensures) (w .5) (w .6))
+    (λ w. skip (c .before .before .before .loop .inv) (search needs) (w .0 .left) (w .1) (w .2)) (c .if2 .came)
 
 returns-2 : tie.Need-returns-2 Inv-loop μ-loop
 returns-2 c =
-    let counted-at = c .before .before .before in
-    let s = counted-at .before .before in
-    written (s .args .position) (s .args .t3) (now (s .args .out)) (c .before .loop .out) (c .before .loop .used) (c .before .loop .k)
-    (counted-at .count .result) (c .before .loop .inv) (search needs) (counted-at .count .ensures)
-    (omega (arith, counted-at .count .ensures, c .before .before .if1 .left))
+    let start : tie.Start Inv-loop μ-loop = search in
+    written (start .args .position) (start .args .t3) (now (start .args .out)) (c .before .loop .out)
+    (c .before .loop .used) (c .before .loop .k)
+    (c .before .before .before .count .result) (c .before .loop .inv) (search needs)
+    (c .before .before .before .count .ensures)
+    (omega (arith, c .before .before .before .count .ensures, c .before .before .if1 .left))
 
 pub write-spec : {M : Type 1} → statement M
 write-spec =
-    tie.close (tie.spec Inv-loop μ-loop (λ c. search needs) returns loop-holds (λ c. search needs) (λ c. search needs) mul-put sub-put part-put-start
-    (λ c. search needs) put-requires add-used (λ c. search needs) (λ c. search needs) loop-again (λ c. search needs) returns-2)
+    tie.close (tie.spec Inv-loop μ-loop (λ c. search needs) returns loop-holds (λ c. search needs) (λ c. search needs)
+    mul-put sub-put part-put-start (λ c. search needs) put-requires add-used (λ c. search needs) (λ c. search needs)
+    loop-again (λ c. search needs) returns-2)

@@ -7,28 +7,40 @@ use Rattle.tdh_validator.proofs.check_continuation.Tie as tie
 
 cast-when-5 : tie.Need-cast-when-5
 cast-when-5 c =
-    let c15 = c .before .before .before .before .before .before .before .before .before .before .before .before .before .before .before in
-    omega (arith, c15 .trigger-type)
+    let after-when3 : tie.After-when3 = search in
+    let after-trigger-type : tie.After-trigger-type = search in
+    omega (arith, after-trigger-type .trigger-type)
 
 returns : tie.Need-returns
 returns c =
-    let c4 = c .before .before .before .before in
-    let c8 = c4 .before .before .before .before in
-    let c12 = c8 .before .before .before .before in
-    let c14 = c12 .before .before in
-    let c15 = c14 .before in
-    let c16 = c15 .before in
-    let c17 = c16 .before in
-    let c18 = c17 .before in
-    let c19 = c18 .before in
-    let c20 = c19 .before in
-    simp (c .when5 .ensures, c4 .when4 .ensures, c8 .when3 .ensures, c12 .when2 .ensures, c14 .when .ensures, c15 .none .ensures, c16 .continuation .ensures, c17 .trigger-type .ensures, c18 .trigger-orbit .ensures, c19 .trigger-bc .ensures, c20 .sanity-check .ensures)
+    let after-when4 : tie.After-when4 = search in
+    let after-when3 : tie.After-when3 = search in
+    let after-when2 : tie.After-when2 = search in
+    let after-when : tie.After-when = search in
+    let after-none : tie.After-none = search in
+    let after-continuation : tie.After-continuation = search in
+    let after-trigger-type : tie.After-trigger-type = search in
+    let after-trigger-orbit : tie.After-trigger-orbit = search in
+    let after-trigger-bc : tie.After-trigger-bc = search in
+    let after-sanity-check : tie.After-sanity-check = search in
+    simp (
+      c .when5 .ensures,
+      after-when4 .when4 .ensures,
+      after-when3 .when3 .ensures,
+      after-when2 .when2 .ensures,
+      after-when .when .ensures,
+      after-none .none .ensures,
+      after-continuation .continuation .ensures,
+      after-trigger-type .trigger-type .ensures,
+      after-trigger-orbit .trigger-orbit .ensures,
+      after-trigger-bc .trigger-bc .ensures,
+      after-sanity-check .sanity-check .ensures,
+    )
 
 pub check-continuation-spec : {M : Type 1} → statement M
 check-continuation-spec =
-    tie.close
-    (tie.spec
-    (λ c. search needs) (λ c. search needs) (λ c. search needs) (λ c. search needs) (λ c. search needs) (λ c. search needs) (λ c. search needs)
-    (λ c. search needs) (λ c. search needs) (λ c. search needs) (λ c. search needs) (λ c. search needs) (λ c. search needs) (λ c. search needs)
-    (λ c. search needs) (λ c. search needs) (λ c. search needs) (λ c. search needs) cast-when-5 (λ c. search needs) (λ c. search needs)
-    (λ c. search needs) returns)
+    tie.close (tie.spec (λ c. search needs) (λ c. search needs) (λ c. search needs) (λ c. search needs)
+    (λ c. search needs) (λ c. search needs) (λ c. search needs) (λ c. search needs) (λ c. search needs)
+    (λ c. search needs) (λ c. search needs) (λ c. search needs) (λ c. search needs) (λ c. search needs)
+    (λ c. search needs) (λ c. search needs) (λ c. search needs) (λ c. search needs) cast-when-5 (λ c. search needs)
+    (λ c. search needs) (λ c. search needs) returns)

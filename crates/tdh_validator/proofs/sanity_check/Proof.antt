@@ -6,20 +6,20 @@ use Rattle.tdh_validator.proofs.sanity_check.Tie as tie
 
 returns : tie.Need-returns
 returns c =
-    let c4 = c .before .before .before .before in
-    let c5 = c4 .before in
-    let c6 = c5 .before in
+    let after-trigger-type : tie.After-trigger-type = search in
+    let after-is-reserved-0 : tie.After-is-reserved-0 = search in
+    let after-id : tie.After-id = search in
     simp (
       c .pick3 .ensures .0,
       c .before .pick2 .ensures .0,
       c .before .before .pick .ensures .0,
       c .before .before .before .internal-trigger .ensures,
-      c4 .trigger-type .ensures,
-      c5 .is-reserved-0 .ensures,
-      c6 .id .ensures,
+      after-trigger-type .trigger-type .ensures,
+      after-is-reserved-0 .is-reserved-0 .ensures,
+      after-id .id .ensures,
     )
 
 pub sanity-check-spec : {M : Type 1} → statement M
 sanity-check-spec =
-    tie.close (tie.spec (λ c. search needs) (λ c. search needs) (λ c. search needs) (λ c. search needs) (λ c. search needs) (λ c. search needs)
-    (λ c. search needs) (λ c. search needs) returns)
+    tie.close (tie.spec (λ c. search needs) (λ c. search needs) (λ c. search needs) (λ c. search needs)
+    (λ c. search needs) (λ c. search needs) (λ c. search needs) (λ c. search needs) returns)

@@ -12,11 +12,16 @@ returns c = left (now (c .before .before .args .a)) (c .before .before .args .t)
 
 returns-2 : tie.Need-returns-2
 returns-2 c =
-    let c6 = c .before .before .before .before .before .before in
-    let c10 = c6 .before .before .before .before in
-    let s = c10 .before .before .before .before .args in
-    let long = c10 .before .before .if1 .left in
-    simp (c .before .before .stored .ensures, c6 .up-to-seen .ensures, c10 .unused .ensures) (stored-all (now (s .a)) (s .t) long) ∙ wrote (now (s .a)) (s .t) long
+    let after-up-to-seen : tie.After-up-to-seen = search in
+    let after-unused : tie.After-unused = search in
+    let else1 : tie.Else1 = search in
+    let start : tie.Start = search in
+    let s = start .args in
+    let long = else1 .if1 .left in
+    simp (c .before .before .stored .ensures, after-up-to-seen .up-to-seen .ensures, after-unused .unused .ensures)
+    (stored-all (now (s .a)) (s .t) long) ∙ wrote (now (s .a)) (s .t) long
 
 pub encode-spec : {M : Type 1} → statement M
-encode-spec = tie.close (tie.spec returns (λ c. search needs) (λ c. search needs) (λ c. search needs) (λ c. search needs) returns-2)
+encode-spec =
+    tie.close (tie.spec returns (λ c. search needs) (λ c. search needs) (λ c. search needs) (λ c. search needs)
+    returns-2)

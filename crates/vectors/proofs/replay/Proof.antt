@@ -23,26 +23,11 @@ step-requires c κs = c .before .loop .inv .0
 
 loop-again : tie.Need-loop-again Inv-loop μ-loop
 loop-again c =
-    (c .before .before .before .before .before .before .before .before .step .ensures, search needs, search needs, search needs, search needs)
+    let after-step : tie.After-step Inv-loop μ-loop = search in
+    (after-step .step .ensures, search needs, search needs, search needs, search needs)
 
 pub replay-spec : {M : Type 1} → statement M
 replay-spec =
-    tie.close
-    (tie.spec
-    Inv-loop
-    μ-loop
-    start-requires
-    loop-holds
-    step-requires
-    (search needs)
-    (search needs)
-    (search needs)
-    (search needs)
-    (search needs)
-    (search needs)
-    (search needs)
-    (search needs)
-    (search needs)
-    loop-again
-    (search needs)
-    (search needs))
+    tie.close (tie.spec Inv-loop μ-loop start-requires loop-holds step-requires (search needs) (search needs) (search
+    needs) (search needs) (search needs) (search needs) (search needs) (search needs) (search needs) loop-again (search
+    needs) (search needs))

@@ -13,11 +13,11 @@ use Rattle.writer.proofs.nine.Tie as tie
 
 returns : tie.Need-returns
 returns c =
-    let b = now (c .before .before .before .before .before .before .before .before .before .before .before .args .bytes) in
+    let start : tie.Start = search in
+    let b = now (start .args .bytes) in
     c .load .ensures ∙ ap (λ (l : List ℕ). wordOf (l ++ (0 ∷ []))) (reads-all 0 9 0 b (omega arith))
 
 pub nine-spec : {M : Type 1} → statement M
 nine-spec =
-    tie.close
-    (tie.spec (search needs) (search needs) (search needs) (search needs) (search needs) (search needs) (search needs) (search needs)
-    (search needs) (search needs) returns)
+    tie.close (tie.spec (search needs) (search needs) (search needs) (search needs) (search needs) (search needs)
+    (search needs) (search needs) (search needs) (search needs) returns)

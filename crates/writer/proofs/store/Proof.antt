@@ -32,13 +32,13 @@ same-length c = simp length-set
 
 returns : tie.Need-returns
 returns c =
-    let a = c .before .before .before .before .before .before .before .before .before .before .args in
+    let start : tie.Start = search in
+    let a = start .args in
     filled (tenBytes (a .word)) (now (a .out)) (search needs) ∙ ten (a .word) (omega arith) (omega arith)
 
 pub store-spec : {M : Type 1} → statement M
 store-spec =
-    tie.close
-    (tie.spec (λ c. search needs) (λ c. search needs) (λ c. search needs) (λ c. search needs) (λ c. search needs) (λ c. search needs)
-    (λ c. search needs) (λ c. search needs) (λ c. search needs) slice-write-out-5 (λ c. search needs) slice-write-out-6 (λ c. search needs)
-    slice-write-out-7 (λ c. search needs) slice-write-out-8 (λ c. search needs) slice-write-out-9 (λ c. search needs) slice-write-out-10
-    same-length returns)
+    tie.close (tie.spec (λ c. search needs) (λ c. search needs) (λ c. search needs) (λ c. search needs)
+    (λ c. search needs) (λ c. search needs) (λ c. search needs) (λ c. search needs) (λ c. search needs)
+    slice-write-out-5 (λ c. search needs) slice-write-out-6 (λ c. search needs) slice-write-out-7 (λ c. search needs)
+    slice-write-out-8 (λ c. search needs) slice-write-out-9 (λ c. search needs) slice-write-out-10 same-length returns)

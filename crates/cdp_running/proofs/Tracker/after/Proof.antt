@@ -6,9 +6,11 @@ use Rattle.cdp_running.proofs.Tracker.after.Tie as tie
 
 returns : tie.Need-returns
 returns c =
-    let c4 = c .before .before .before .before in
-    let c5 = c4 .before in
-    simp (c .frame .ensures, c .before .stored .ensures, c4 .is-data .ensures, c5 .here .ensures)
+    let after-is-data : tie.After-is-data = search in
+    let after-here : tie.After-here = search in
+    simp (c .frame .ensures, c .before .stored .ensures, after-is-data .is-data .ensures, after-here .here .ensures)
 
 pub after-spec : {M : Type 1} → statement M
-after-spec = tie.close (tie.spec (λ c κs. search needs) (λ c. search needs) (λ c. search needs) (λ c. search needs) (λ c. search needs) returns)
+after-spec =
+    tie.close (tie.spec (λ c κs. search needs) (λ c. search needs) (λ c. search needs) (λ c. search needs)
+    (λ c. search needs) returns)

@@ -9,13 +9,14 @@ use Rattle.cdp_running.proofs.Tracker.packet.Tie as tie
 
 returns : tie.Need-returns
 returns c =
-    let s = c .before .before in
-    packet-refused (s .args .self) (s .args .packet) (s .pre) (sym (c .before .in-range .ensures) ∙ not-true _ (c .if1 .taken))
+    packet-refused (c .before .before .args .self) (c .before .before .args .packet) (c .before .before .pre)
+    (sym (c .before .in-range .ensures) ∙ not-true _ (c .if1 .taken))
 
 returns-2 : tie.Need-returns-2
 returns-2 c =
-    let s = c .before .before .before .before in
-    packet-accepted (s .args .self) (s .args .packet) (s .pre) (sym (c .before .before .before .in-range .ensures) ∙ not-false _ (c .before .before .if1 .left))
+    let start : tie.Start = search in
+    packet-accepted (start .args .self) (start .args .packet) (start .pre)
+    (sym (c .before .before .before .in-range .ensures) ∙ not-false _ (c .before .before .if1 .left))
 
 pub packet-spec : {M : Type 1} → statement M
 packet-spec = tie.close (tie.spec (λ c κs. search needs) returns returns-2)

@@ -8,8 +8,9 @@ use Rattle.comparison.proofs.Listing.start.Tie as tie
 
 returns : tie.Need-returns
 returns c =
-    let c5 = c .before .before .before .before .before in
-    started (now (c5 .args .a)) (now (c5 .args .b)) (c .before .before .check .ensures) (c .before .check2 .ensures) (c .first-stage .ensures)
+    let start : tie.Start = search in
+    started (now (start .args .a)) (now (start .args .b)) (c .before .before .check .ensures)
+    (c .before .check2 .ensures) (c .first-stage .ensures)
 
 pub start-spec : {M : Type 1} → statement M
 start-spec = tie.close (tie.spec (λ c. search needs) (λ c. search needs) (λ c. search needs) returns)

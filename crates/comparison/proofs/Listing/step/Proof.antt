@@ -10,17 +10,19 @@ use Rattle.comparison.proofs.Listing.step.Tie as tie
 
 returns : tie.Need-returns
 returns c =
-    let c4 = c .before .before .before .before in
-    no-room (laws _ _) (c4 .pre) (now (c4 .args .out)) (omega (arith, c .if1 .taken))
+    let start : tie.Start = search in
+    no-room (laws _ _) (start .pre) (now (start .args .out)) (omega (arith, c .if1 .taken))
 
 stage-step-requires : tie.Need-stage-step-requires
-stage-step-requires c κs = (c .before .before .before .before .before .pre, omega (arith, c .before .if1 .left))
+stage-step-requires c κs =
+    let start : tie.Start = search in
+    (start .pre, omega (arith, c .before .if1 .left))
 
 returns-2 : tie.Need-returns-2
 returns-2 c =
-    let c4 = c .before .before .before .before in
-    let c8 = c4 .before .before .before .before in
-    stepped (laws _ _) (c8 .pre) (omega (arith, c4 .if1 .left)) (c .before .before .stage-step .ensures)
+    let else1 : tie.Else1 = search in
+    let start : tie.Start = search in
+    stepped (laws _ _) (start .pre) (omega (arith, else1 .if1 .left)) (c .before .before .stage-step .ensures)
 
 pub step-spec : {M : Type 1} → statement M
 step-spec = tie.close (tie.spec returns stage-step-requires (λ c. search needs) returns-2)

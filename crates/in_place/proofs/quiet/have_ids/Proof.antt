@@ -26,10 +26,12 @@ loop-holds c =
 
 loop-again : tie.Need-loop-again Inv-loop μ-loop
 loop-again c =
-    let c6 = c .before .before .before .before .before .before in
-    let a = c6 .args in
-    let inv = c .before .before .before .before .loop .inv in
-    let id-is = ap (λ (j : ℕ). hasId (a .ids) (getD (now (a .bytes)) (j + 9) 0)) (sym (inv .to-is)) ∙ sym (c .before .has-id .ensures) ∙ not-false (c .before .has-id .result) (c .if1 .left) in
+    let at-loop : tie.At-loop Inv-loop μ-loop = search in
+    let start : tie.Start Inv-loop μ-loop = search in
+    let a = start .args in
+    let inv = at-loop .loop .inv in
+    let id-is = ap (λ (j : ℕ). hasId (a .ids) (getD (now (a .bytes)) (j + 9) 0)) (sym (inv .to-is))
+    ∙ sym (c .before .has-id .ensures) ∙ not-false (c .before .has-id .result) (c .if1 .left) in
     record {
       n = inv .n + 1;
       to-is = omega (arith, inv .to-is);
@@ -39,6 +41,5 @@ loop-again c =
 
 pub have-ids-spec : {M : Type 1} → statement M
 have-ids-spec =
-    tie.close
-    (tie.spec Inv-loop μ-loop loop-holds (λ c. search needs) (λ c. search needs) (λ c. search needs) (λ c. search needs) (λ c. search needs)
-    (λ c. search needs) loop-again (λ c. search needs))
+    tie.close (tie.spec Inv-loop μ-loop loop-holds (λ c. search needs) (λ c. search needs) (λ c. search needs)
+    (λ c. search needs) (λ c. search needs) (λ c. search needs) loop-again (λ c. search needs))

@@ -10,11 +10,14 @@ use Rattle.in_place.proofs.rows.write.Tie as tie
 
 returns : tie.Need-returns
 returns c =
-    let c4 = c .before .before .before .before in
-    quiet-wrote (c4 .args .here) (rowsOf (trackerIn (now (c4 .args .a))) (c4 .args .taken) (c4 .args .word)) (now (c4 .args .out)) (c .before .is-silent .ensures (c .if1 .taken))
+    let start : tie.Start = search in
+    quiet-wrote (start .args .here) (rowsOf (trackerIn (now (start .args .a))) (start .args .taken) (start .args .word))
+    (now (start .args .out)) (c .before .is-silent .ensures (c .if1 .taken))
 
 returns-2 : tie.Need-returns-2
 returns-2 c = of-rows (c .before .before .before .rows .ensures) (c .before .before .write .ensures)
 
 pub write-spec : {M : Type 1} → statement M
-write-spec = tie.close (tie.spec (λ c. search needs) returns (λ c. search needs) (λ c. search needs) (λ c. search needs) returns-2)
+write-spec =
+    tie.close (tie.spec (λ c. search needs) returns (λ c. search needs) (λ c. search needs) (λ c. search needs)
+    returns-2)

@@ -14,13 +14,13 @@ add-first c = omega (arith, position-low (packetIn (now (c .before .args .a))) (
 
 add-result : tie.Need-add-result
 add-result c =
-    let c4 = c .before .before .before .before in
-    omega (arith, position-low (packetIn (now (c4 .args .a))) (c4 .pre .good .packet), c4 .pre .good .count)
+    let start : tie.Start = search in
+    omega (arith, position-low (packetIn (now (start .args .a))) (start .pre .good .packet), start .pre .good .count)
 
 add-result-2 : tie.Need-add-result-2
 add-result-2 c =
-    let c4 = c .before .before .before .before in
-    omega (arith, position-low (packetIn (now (c4 .args .a))) (c4 .pre .good .packet), c4 .pre .good .count)
+    let start : tie.Start = search in
+    omega (arith, position-low (packetIn (now (start .args .a))) (start .pre .good .packet), start .pre .good .count)
 
 returns : tie.Need-returns
 returns c = simp (eq-eqb _ _ (c .before .if1 .taken))
@@ -30,6 +30,5 @@ returns-2 c = simp (ne-eqb _ _ (c .before .if1 .left))
 
 pub position-spec : {M : Type 1} → statement M
 position-spec =
-    tie.close
-    (tie.spec (λ c. search needs) add-first (λ c. search needs) (λ c. search needs) (λ c. search needs) add-result (λ c. search needs)
-    (λ c. search needs) add-result-2 returns returns-2)
+    tie.close (tie.spec (λ c. search needs) add-first (λ c. search needs) (λ c. search needs) (λ c. search needs)
+    add-result (λ c. search needs) (λ c. search needs) add-result-2 returns returns-2)

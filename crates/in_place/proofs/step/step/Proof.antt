@@ -13,26 +13,37 @@ use Rattle.in_place.proofs.step.step.Tie as tie
 
 returns : tie.Need-returns
 returns c =
-    let c6 = c .before .before .before .before .before .before in
-    let c12 = c6 .before .before .before .before .before .before in
-    let s = c12 .before .before .before .args in
+    let after-write : tie.After-write = search in
+    let after-position : tie.After-position = search in
+    let after-taken-as : tie.After-taken-as = search in
+    let after-load-at : tie.After-load-at = search in
+    let start : tie.Start = search in
+    let s = start .args in
     let l = now (s .a) in
     let bytes = take 10 (drop (s .at) (now (s .bytes))) in
-    step-full l (wordOf bytes) (as-written (trackerIn l) bytes (c6 .before .before .before .taken-as .ensures) (c6 .before .before .before .before .before .load-at .ensures) (c6 .before .position .ensures) refl (c .before .before .before .before .write .ensures)) (c .enum-told .given .1)
+    step-full l (wordOf bytes) (as-written (trackerIn l) bytes (after-taken-as .taken-as .ensures)
+    (after-load-at .load-at .ensures) (after-position .position .ensures) refl (after-write .write .ensures))
+    (c .enum-told .given .1)
 
 returns-2 : tie.Need-returns-2
 returns-2 c =
-    let c6 = c .before .before .before .before .before .before in
-    let c12 = c6 .before .before .before .before .before .before in
-    let c18 = c12 .before .before .before .before .before .before in
-    let s = c18 .before .before .args in
+    let after-n : tie.After-n = search in
+    let after-write : tie.After-write = search in
+    let after-position : tie.After-position = search in
+    let after-taken-as : tie.After-taken-as = search in
+    let after-load-at : tie.After-load-at = search in
+    let start : tie.Start = search in
+    let s = start .args in
     let l = now (s .a) in
     let bytes = take 10 (drop (s .at) (now (s .bytes))) in
-    step-done l (wordOf bytes) (as-written (trackerIn l) bytes (c12 .before .before .taken-as .ensures) (c12 .before .before .before .before .load-at .ensures) (c12 .position .ensures) refl (c6 .before .before .before .write .ensures)) (c .before .before .before .before .before .n .given .1)
-    (as-stored (trackerIn l) (c12 .before .before .taken-as .ensures) (c12 .before .before .before .before .load-at .ensures) (c .before .before .word .ensures))
+    step-done l (wordOf bytes) (as-written (trackerIn l) bytes (after-taken-as .taken-as .ensures)
+    (after-load-at .load-at .ensures) (after-position .position .ensures) refl (after-write .write .ensures))
+    (after-n .n .given .1)
+    (as-stored (trackerIn l) (after-taken-as .taken-as .ensures) (after-load-at .load-at .ensures)
+    (c .before .before .word .ensures))
 
 pub step-spec : {M : Type 1} → statement M
 step-spec =
-    tie.close
-    (tie.spec (λ c. search needs) (λ c. search needs) (λ c. search needs) (λ c. search needs) (λ c. search needs) (λ c. search needs)
-    (λ c. search needs) (λ c. search needs) returns (λ c. search needs) (λ c. search needs) (λ c. search needs) returns-2)
+    tie.close (tie.spec (λ c. search needs) (λ c. search needs) (λ c. search needs) (λ c. search needs)
+    (λ c. search needs) (λ c. search needs) (λ c. search needs) (λ c. search needs) returns (λ c. search needs)
+    (λ c. search needs) (λ c. search needs) returns-2)

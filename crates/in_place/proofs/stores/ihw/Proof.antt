@@ -8,4 +8,6 @@ returns : tie.Need-returns
 returns c = simp (c .active-lanes .ensures)
 
 pub ihw-spec : {M : Type 1} → statement M
-ihw-spec = tie.close (tie.spec (λ c. search needs) (λ c. search needs) (λ c. search needs) (λ c. search needs) (λ c. search needs) returns)
+ihw-spec =
+    tie.close (tie.spec (λ c. search needs) (λ c. search needs) (λ c. search needs) (λ c. search needs)
+    (λ c. search needs) returns)

@@ -31,6 +31,5 @@ returns c = accepts (now (c .args .a)) _ (c .pre)
 
 pub packet-spec : {M : Type 1} → statement M
 packet-spec =
-    tie.close
-    (tie.spec (λ c. search needs) (λ c. search needs) (λ c. search needs) (λ c. search needs) slice-write-a-5 slice-write-a-6 slice-write-a-7
-    slice-write-a-8 slice-write-a-9 slice-write-a-10 (λ c. search needs) returns)
+    tie.close (tie.spec (λ c. search needs) (λ c. search needs) (λ c. search needs) (λ c. search needs) slice-write-a-5
+    slice-write-a-6 slice-write-a-7 slice-write-a-8 slice-write-a-9 slice-write-a-10 (λ c. search needs) returns)

@@ -21,6 +21,5 @@ returns-2 c = simp (c .if1 .left)
 
 pub put-three-if-spec : {M : Type 1} → statement M
 put-three-if-spec =
-    tie.close
-    (tie.spec (λ c. search needs) (λ c. search needs) (λ c. search needs) (λ c. search needs) slice-write-a-2 (λ c. search needs) (λ c. search needs)
-    slice-write-a-3 (λ c. search needs) returns returns-2)
+    tie.close (tie.spec (λ c. search needs) (λ c. search needs) (λ c. search needs) (λ c. search needs) slice-write-a-2
+    (λ c. search needs) (λ c. search needs) slice-write-a-3 (λ c. search needs) returns returns-2)

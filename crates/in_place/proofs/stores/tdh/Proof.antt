@@ -15,15 +15,23 @@ use Rattle.in_place.proofs.stores.tdh.Tie as tie
 
 returns : tie.Need-returns
 returns c =
-    let c6 = c .before .before .before .before .before .before in
-    let c12 = c6 .before .before .before .before .before .before in
-    let c18 = c12 .before .before .before .before .before .before in
-    let l = now (c18 .before .args .a) in
-    tdh-stored (c18 .before .args .word) l (c18 .before .args .here) (c12 .before .before .before .before .before .trigger-bc .ensures) (c12 .before .before .before .before .trigger-orbit .ensures) (ap (λ (n : ℕ). eqb n 1) (c12 .before .before .internal-trigger .ensures))
-    (ap (λ (n : ℕ). isOn (place l P.frames) && (not (isOn (place l P.opened)) && eqb n 0)) (c12 .before .before .before .continuation .ensures)) (c6 .before .before .before .before .tdh-fields .ensures) (c6 .put-three-if .ensures) (c .before .before .put-if .ensures)
+    let after-put-three-if : tie.After-put-three-if = search in
+    let after-tdh-fields : tie.After-tdh-fields = search in
+    let after-internal-trigger : tie.After-internal-trigger = search in
+    let after-continuation : tie.After-continuation = search in
+    let after-trigger-orbit : tie.After-trigger-orbit = search in
+    let after-trigger-bc : tie.After-trigger-bc = search in
+    let start : tie.Start = search in
+    let l = now (start .args .a) in
+    tdh-stored (start .args .word) l (start .args .here) (after-trigger-bc .trigger-bc .ensures)
+    (after-trigger-orbit .trigger-orbit .ensures)
+    (ap (λ (n : ℕ). eqb n 1) (after-internal-trigger .internal-trigger .ensures))
+    (ap (λ (n : ℕ). isOn (place l P.frames) && (not (isOn (place l P.opened)) && eqb n 0))
+    (after-continuation .continuation .ensures)) (after-tdh-fields .tdh-fields .ensures)
+    (after-put-three-if .put-three-if .ensures) (c .before .before .put-if .ensures)
 
 pub tdh-spec : {M : Type 1} → statement M
 tdh-spec =
-    tie.close
-    (tie.spec (λ c. search needs) (λ c. search needs) (λ c. search needs) (λ c. search needs) (λ c. search needs) (λ c. search needs)
-    (λ c. search needs) (λ c. search needs) (λ c. search needs) (λ c. search needs) (λ c. search needs) (λ c. search needs) returns)
+    tie.close (tie.spec (λ c. search needs) (λ c. search needs) (λ c. search needs) (λ c. search needs)
+    (λ c. search needs) (λ c. search needs) (λ c. search needs) (λ c. search needs) (λ c. search needs)
+    (λ c. search needs) (λ c. search needs) (λ c. search needs) returns)

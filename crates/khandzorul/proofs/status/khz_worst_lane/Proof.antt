@@ -10,16 +10,19 @@ use Rattle.khandzorul.proofs.status.khz_worst_lane.Tie as tie
 
 returns : tie.Need-returns
 returns c =
-    let w = c .before .before in
-    let b = w .before .before in
-    let a = b .before .before .args in
-    answered (c .ddw0-tdt-worst-lane-status .ensures) ∙ status-is worstLane (now (a .word)) (b .from-buf .ensures) _ (w .word .given .1)
+    let after-from-buf : tie.After-from-buf = search in
+    let start : tie.Start = search in
+    let a = start .args in
+    answered (c .ddw0-tdt-worst-lane-status .ensures)
+    ∙ status-is worstLane (now (a .word)) (after-from-buf .from-buf .ensures) _ (c .before .before .word .given .1)
 
 returns-2 : tie.Need-returns-2
 returns-2 c =
-    let b = c .before .before .before in
-    let a = b .before .before .args in
-    status-refused worstLane (now (a .word)) (b .from-buf .ensures) _ (c .before .n .given .1)
+    let start : tie.Start = search in
+    let a = start .args in
+    status-refused worstLane (now (a .word)) (c .before .before .before .from-buf .ensures) _ (c .before .n .given .1)
 
 pub khz-worst-lane-spec : {M : Type 1} → statement M
-khz-worst-lane-spec = tie.close (tie.spec (search needs) (search needs) (search needs) (search needs) (search needs) (search needs) returns returns-2)
+khz-worst-lane-spec =
+    tie.close (tie.spec (search needs) (search needs) (search needs) (search needs) (search needs) (search needs)
+    returns returns-2)

@@ -8,8 +8,9 @@ use Rattle.report.proofs.Report.start.Tie as tie
 
 returns : tie.Need-returns
 returns c =
-    let c4 = c .before .before .before .before in
-    started (now (c4 .args .file)) (c .before .before .check .ensures) (c .before .first-stage .ensures) (c .start .ensures .0)
+    let start : tie.Start = search in
+    started (now (start .args .file)) (c .before .before .check .ensures) (c .before .first-stage .ensures)
+    (c .start .ensures .0)
 
 pub start-spec : {M : Type 1} → statement M
 start-spec = tie.close (tie.spec (λ c. search needs) (λ c. search needs) (λ c. search needs) returns)

@@ -9,16 +9,20 @@ use Rattle.report.proofs.Report.step.Statement.{statement}
 use Rattle.report.proofs.Report.step.Tie as tie
 
 returns : tie.Need-returns
-returns c = no-room (laws _) (c .before .before .before .pre) (now (c .before .before .before .args .out)) (omega (arith, c .if1 .taken))
+returns c =
+    no-room (laws _) (c .before .before .before .pre) (now (c .before .before .before .args .out))
+    (omega (arith, c .if1 .taken))
 
 stage-step-requires : tie.Need-stage-step-requires
-stage-step-requires c κs = (c .before .before .before .before .pre, omega (arith, c .before .if1 .left))
+stage-step-requires c κs =
+    let start : tie.Start = search in
+    (start .pre, omega (arith, c .before .if1 .left))
 
 returns-2 : tie.Need-returns-2
 returns-2 c =
-    let c4 = c .before .before .before .before in
-    let c7 = c4 .before .before .before in
-    stepped (laws _) (c7 .pre) (omega (arith, c4 .if1 .left)) (c .before .before .stage-step .ensures)
+    let else1 : tie.Else1 = search in
+    let start : tie.Start = search in
+    stepped (laws _) (start .pre) (omega (arith, else1 .if1 .left)) (c .before .before .stage-step .ensures)
 
 pub step-spec : {M : Type 1} → statement M
 step-spec = tie.close (tie.spec returns stage-step-requires (λ c. search needs) returns-2)

@@ -11,11 +11,15 @@ use Rattle.report.proofs.text.put_count.Tie as tie
 
 returns : tie.Need-returns
 returns c =
-    let name = in-room (length (now (c .before .before .before .before .before .before .before .before .before .before .args .name))) (now (c .before .before .before .before .before .before .before .before .before .before .args .name)) (omega (arith, c .before .before .before .before .before .before .before .before .before .before .pre)) (c .before .before .before .before .before .before .put .ensures .0) in
-    let n = in-room mostNumber (numeral (c .before .before .before .before .before .before .before .before .before .before .args .n) newline) (omega (arith, c .before .before .before .before .before .before .before .before .before .before .pre, c .before .before .before .before .before .before .put .ensures .1)) (c .before .before .put-number .ensures .0) in
+    let after-put : tie.After-put = search in
+    let start : tie.Start = search in
+    let name = in-room (length (now (start .args .name))) (now (start .args .name)) (omega (arith, start .pre))
+    (after-put .put .ensures .0) in
+    let n = in-room mostNumber (numeral (start .args .n) newline)
+    (omega (arith, start .pre, after-put .put .ensures .1)) (c .before .before .put-number .ensures .0) in
     behind name n
 
 pub put-count-spec : {M : Type 1} → statement M
 put-count-spec =
-    tie.close (tie.spec (λ c. search needs) (λ c. search needs) (λ c. search needs) (λ c. search needs) (λ c. search needs) (λ c. search needs)
-    (λ c. search needs) returns)
+    tie.close (tie.spec (λ c. search needs) (λ c. search needs) (λ c. search needs) (λ c. search needs)
+    (λ c. search needs) (λ c. search needs) (λ c. search needs) returns)

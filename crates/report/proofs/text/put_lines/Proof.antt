@@ -20,30 +20,35 @@ abbrev μ-loop : tie.MeasureT-loop
 μ-loop out₀ records n used₀ i₀ out used i = n - i
 
 loop-holds : tie.Need-loop-holds Inv-loop μ-loop
-loop-holds c = (omega arith, (omega arith, (refl, none-yet (now (c .before .before .args .records)) (now (c .before .before .args .out)))))
+loop-holds c =
+    (omega arith, (omega arith, (refl, none-yet (now (c .before .before .args .records)) (now (c .before .before .args .out)))))
 
 loop-again : tie.Need-loop-again Inv-loop μ-loop
 loop-again c =
-    let c9 = c .before .before .before .before .before .before .before .before .before in
-    let c12 = c9 .before .before .before in (
+    let at-loop : tie.At-loop Inv-loop μ-loop = search in
+    let start : tie.Start Inv-loop μ-loop = search in (
       omega arith,
       (
         omega (arith, c .before .before .put-line .ensures .1),
         (
           search needs,
-          line-behind (now (c12 .args .records)) (c9 .loop .i) (c9 .loop .inv .1 .1 .1) (c .before .before .put-line .ensures .0),
+          line-behind (now (start .args .records)) (at-loop .loop .i) (at-loop .loop .inv .1 .1 .1)
+              (c .before .before .put-line .ensures .0),
         ),
       ),
     )
 
 returns : tie.Need-returns Inv-loop μ-loop
 returns c =
-    let e : c .before .loop .i ≡ c .before .before .before .before .args .n = omega arith in
-    subst (λ k. Puts (lines (recordsAt k (now (c .before .before .before .before .args .records)))) (now (c .before .before .before .before .args .out)) (c .before .loop .used) (c .before .loop .out)) e (c .before .loop .inv .1 .1 .1)
+    let start : tie.Start Inv-loop μ-loop = search in
+    let e : c .before .loop .i ≡ start .args .n = omega arith in
+    subst (λ k. Puts (lines (recordsAt k (now (start .args .records)))) (now (start .args .out)) (c .before .loop .used)
+    (c .before .loop .out)) e (c .before .loop .inv .1 .1 .1)
 
 pub put-lines-spec : {M : Type 1} → statement M
 put-lines-spec =
-    tie.close (tie.spec Inv-loop μ-loop loop-holds (λ c. search needs) (λ c. search needs) (λ c. search needs) (λ c. search needs) (λ c. search needs)
-    (λ c. search needs) (λ c. search needs) (λ c. search needs) (λ c. search needs) (λ c. search needs) (λ c. search needs) (λ c. search needs)
-    (λ c. search needs) (λ c. search needs) (λ c. search needs) (λ c. search needs) (λ c. search needs) (λ c. search needs)
+    tie.close (tie.spec Inv-loop μ-loop loop-holds (λ c. search needs) (λ c. search needs) (λ c. search needs)
+    (λ c. search needs) (λ c. search needs) (λ c. search needs) (λ c. search needs) (λ c. search needs)
+    (λ c. search needs) (λ c. search needs) (λ c. search needs) (λ c. search needs) (λ c. search needs)
+    (λ c. search needs) (λ c. search needs) (λ c. search needs) (λ c. search needs) (λ c. search needs)
     (λ c. search needs) loop-again (λ c. search needs) returns)

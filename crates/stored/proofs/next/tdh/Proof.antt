@@ -6,9 +6,9 @@ use Rattle.stored.proofs.next.tdh.Tie as tie
 
 returns : tie.Need-returns
 returns c =
-    let c4 = c .before .before .before .before in
+    let after-is-tdh : tie.After-is-tdh = search in
     simp (
-      ← c4 .is-tdh .ensures,
+      ← after-is-tdh .is-tdh .ensures,
       c .before .before .before .if1 .taken,
       c .before .before .trigger-type .ensures,
       c .before .trigger-bc .ensures,
@@ -19,4 +19,6 @@ returns-2 : tie.Need-returns-2
 returns-2 c = simp (← c .before .is-tdh .ensures, c .if1 .left)
 
 pub tdh-spec : {M : Type 1} → statement M
-tdh-spec = tie.close (tie.spec (λ c. search needs) (λ c. search needs) (λ c. search needs) (λ c. search needs) returns returns-2)
+tdh-spec =
+    tie.close (tie.spec (λ c. search needs) (λ c. search needs) (λ c. search needs) (λ c. search needs) returns
+    returns-2)

@@ -10,12 +10,17 @@ returns : tie.Need-returns
 returns c = fails _ (c .before .settings .ensures) (c .if1 .taken)
 
 returns-2 : tie.Need-returns-2
-returns-2 c = holds (c .before .before .before .settings .ensures) (c .before .before .if1 .left) (fails _ (c .before .packet .ensures) (c .if2 .taken))
+returns-2 c =
+    holds (c .before .before .before .settings .ensures) (c .before .before .if1 .left)
+    (fails _ (c .before .packet .ensures) (c .if2 .taken))
 
 returns-3 : tie.Need-returns-3
 returns-3 c =
-    let c4 = c .before .before .before .before in
-    holds (c4 .settings .ensures) (c .before .before .before .if1 .left) (holds (c .before .before .packet .ensures) (c .before .if2 .left) refl)
+    let after-settings : tie.After-settings = search in
+    holds (after-settings .settings .ensures) (c .before .before .before .if1 .left)
+    (holds (c .before .before .packet .ensures) (c .before .if2 .left) refl)
 
 pub came-good-spec : {M : Type 1} → statement M
-came-good-spec = tie.close (tie.spec (λ c. search needs) returns (λ c. search needs) returns-2 (λ c. search needs) (λ c. search needs) returns-3)
+came-good-spec =
+    tie.close (tie.spec (λ c. search needs) returns (λ c. search needs) returns-2 (λ c. search needs)
+    (λ c. search needs) returns-3)

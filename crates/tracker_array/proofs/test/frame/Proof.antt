@@ -12,9 +12,11 @@ use Rattle.tracker_array.proofs.test.frame.Tie as tie
 
 returns : tie.Need-returns
 returns c =
-    let l = now (c .before .before .before .before .before .args .a) in
-    let f = c .before .before .before .before .before .pre in
+    let start : tie.Start = search in
+    let l = now (start .args .a) in
+    let f = start .pre in
     simp (c .before .fits2 .ensures, below (place l P.start) mostPosition, only-where (place l P.opened) (place l P.frames) (f .opened) (f .frames), and-assoc)
 
 pub frame-spec : {M : Type 1} → statement M
-frame-spec = tie.close (tie.spec (λ c. search needs) (λ c. search needs) (λ c. search needs) (λ c. search needs) returns)
+frame-spec =
+    tie.close (tie.spec (λ c. search needs) (λ c. search needs) (λ c. search needs) (λ c. search needs) returns)

@@ -8,4 +8,6 @@ returns : tie.Need-returns
 returns c = simp (c .before .before .before .flags-fit .ensures, c .before .is-rule .ensures, c .zeros .ensures)
 
 pub in-form-spec : {M : Type 1} → statement M
-in-form-spec = tie.close (tie.spec (λ c. search needs) (λ c. search needs) (λ c. search needs) (λ c. search needs) (λ c. search needs) returns)
+in-form-spec =
+    tie.close (tie.spec (λ c. search needs) (λ c. search needs) (λ c. search needs) (λ c. search needs)
+    (λ c. search needs) returns)

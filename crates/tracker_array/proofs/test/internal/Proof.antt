@@ -12,9 +12,13 @@ use Rattle.tracker_array.proofs.test.internal.Tie as tie
 
 returns : tie.Need-returns
 returns c =
-    let l = now (c .before .before .before .before .before .before .args .a) in
+    let start : tie.Start = search in
+    let l = now (start .args .a) in
     simp (c .before .before .fits2 .ensures, c .fits3 .ensures)
-    (two (isOn (place l P.internal)) (ltb (place l P.internalBc) 0x1000) (ltb (place l P.internalOrbit) 0x100000000) (eqb (place l P.internalBc) 0) (eqb (place l P.internalOrbit) 0))
+    (two (isOn (place l P.internal)) (ltb (place l P.internalBc) 0x1000) (ltb (place l P.internalOrbit) 0x100000000)
+    (eqb (place l P.internalBc) 0) (eqb (place l P.internalOrbit) 0))
 
 pub internal-spec : {M : Type 1} → statement M
-internal-spec = tie.close (tie.spec (λ c. search needs) (λ c. search needs) (λ c. search needs) (λ c. search needs) (λ c. search needs) returns)
+internal-spec =
+    tie.close (tie.spec (λ c. search needs) (λ c. search needs) (λ c. search needs) (λ c. search needs)
+    (λ c. search needs) returns)

@@ -33,32 +33,38 @@ grouped : (l : List ℕ) → isOn (place l P.accepted) ≡ true
 grouped l have =
     let came = settingsGood (settingsIn l) && (inRange (packetIn l) && leb (place l P.count) maxWords) in
     let kept = storedGood (isOn (place l P.frames)) (storedIn l) (frameIn l) in
-    first came kept (leb (place l P.state) 6) (present (trackerIn l .at .fsm .state) (storedIn l)) ∙ simp (have, and-true, and-assoc)
+    first came kept (leb (place l P.state) 6) (present (trackerIn l .at .fsm .state) (storedIn l))
+    ∙ simp (have, and-true, and-assoc)
 
 returns : tie.Need-returns
 returns c =
-    let c4 = c .before .before .before .before in
-    c .bare .ensures ∙ bare-good (now (c4 .args .a)) (c4 .pre) (ne-eqb _ _ (c .before .if1 .taken))
+    let start : tie.Start = search in
+    c .bare .ensures ∙ bare-good (now (start .args .a)) (start .pre) (ne-eqb _ _ (c .before .if1 .taken))
 
 returns-2 : tie.Need-returns-2
 returns-2 c =
-    let c5 = c .before .before .before .before .before in
-    fails _ (c .before .came-good .ensures) (c .if2 .taken) ∙ grouped (now (c5 .args .a)) (eq-eqb _ _ (c .before .before .if1 .left))
+    let start : tie.Start = search in
+    fails _ (c .before .came-good .ensures) (c .if2 .taken)
+    ∙ grouped (now (start .args .a)) (eq-eqb _ _ (c .before .before .if1 .left))
 
 returns-3 : tie.Need-returns-3
 returns-3 c =
-    let c6 = c .before .before .before .before .before .before in
-    holds (c .before .before .before .came-good .ensures) (c .before .before .if2 .left) (fails _ (c .before .stored-good .ensures) (c .if3 .taken))
-    ∙ grouped (now (c6 .before .args .a)) (eq-eqb _ _ (c .before .before .before .before .if1 .left))
+    let else1 : tie.Else1 = search in
+    let start : tie.Start = search in
+    holds (c .before .before .before .came-good .ensures) (c .before .before .if2 .left)
+    (fails _ (c .before .stored-good .ensures) (c .if3 .taken))
+    ∙ grouped (now (start .args .a)) (eq-eqb _ _ (else1 .if1 .left))
 
 returns-4 : tie.Need-returns-4
 returns-4 c =
-    let c6 = c .before .before .before .before .before .before in
-    holds (c .before .before .before .before .came-good .ensures) (c .before .before .before .if2 .left) (holds (c .before .before .stored-good .ensures) (c .before .if3 .left) (c .present .ensures))
-    ∙ grouped (now (c6 .before .before .args .a)) (eq-eqb _ _ (c .before .before .before .before .before .if1 .left))
+    let after-came-good : tie.After-came-good = search in
+    let else1 : tie.Else1 = search in
+    let start : tie.Start = search in
+    holds (after-came-good .came-good .ensures) (c .before .before .before .if2 .left)
+    (holds (c .before .before .stored-good .ensures) (c .before .if3 .left) (c .present .ensures))
+    ∙ grouped (now (start .args .a)) (eq-eqb _ _ (else1 .if1 .left))
 
 pub is-good-spec : {M : Type 1} → statement M
 is-good-spec =
-    tie.close
-    (tie.spec (λ c. search needs) (λ c. search needs) returns (λ c. search needs) returns-2 (λ c. search needs) returns-3 (λ c. search needs)
-    returns-4)
+    tie.close (tie.spec (λ c. search needs) (λ c. search needs) returns (λ c. search needs) returns-2
+    (λ c. search needs) returns-3 (λ c. search needs) returns-4)

@@ -10,10 +10,11 @@ use Rattle.tracker_array.proofs.test.present.Tie as tie
 
 returns : tie.Need-returns
 returns c =
-    let l = now (c .before .before .before .before .before .args .a) in
-    simp (c .before .fits2 .ensures) (state-fits (place l P.state) (place l P.ihw) (place l P.tdh) (c .before .before .before .before .before .pre .tdh))
+    let start : tie.Start = search in
+    let l = now (start .args .a) in
+    simp (c .before .fits2 .ensures) (state-fits (place l P.state) (place l P.ihw) (place l P.tdh) (start .pre .tdh))
 
 pub present-spec : {M : Type 1} → statement M
 present-spec =
-    tie.close (tie.spec (λ c. search needs) (λ c. search needs) (λ c. search needs) (λ c. search needs) (λ c. search needs)
-    (λ c. search needs) returns)
+    tie.close (tie.spec (λ c. search needs) (λ c. search needs) (λ c. search needs) (λ c. search needs)
+    (λ c. search needs) (λ c. search needs) returns)

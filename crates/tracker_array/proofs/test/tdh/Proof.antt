@@ -12,13 +12,15 @@ use Rattle.tracker_array.proofs.test.tdh.Tie as tie
 
 returns : tie.Need-returns
 returns c =
-    let c6 = c .before .before .before .before .before .before in
-    let l = now (c6 .before .before .args .a) in
-    simp (c .before .before .before .before .fits2 .ensures, c .before .before .fits3 .ensures, c .fits4 .ensures)
-    (three (isOn (place l P.tdh)) (ltb (place l P.tdhTrigger) 0x1000) (ltb (place l P.tdhBc) 0x1000) (ltb (place l P.tdhOrbit) 0x100000000) (eqb (place l P.tdhTrigger) 0) (eqb (place l P.tdhBc) 0) (eqb (place l P.tdhOrbit) 0))
+    let after-fits2 : tie.After-fits2 = search in
+    let start : tie.Start = search in
+    let l = now (start .args .a) in
+    simp (after-fits2 .fits2 .ensures, c .before .before .fits3 .ensures, c .fits4 .ensures)
+    (three (isOn (place l P.tdh)) (ltb (place l P.tdhTrigger) 0x1000) (ltb (place l P.tdhBc) 0x1000)
+    (ltb (place l P.tdhOrbit) 0x100000000) (eqb (place l P.tdhTrigger) 0) (eqb (place l P.tdhBc) 0)
+    (eqb (place l P.tdhOrbit) 0))
 
 pub tdh-spec : {M : Type 1} → statement M
 tdh-spec =
-    tie.close
-    (tie.spec (λ c. search needs) (λ c. search needs) (λ c. search needs) (λ c. search needs) (λ c. search needs) (λ c. search needs)
-    (λ c. search needs) returns)
+    tie.close (tie.spec (λ c. search needs) (λ c. search needs) (λ c. search needs) (λ c. search needs)
+    (λ c. search needs) (λ c. search needs) (λ c. search needs) returns)

@@ -31,4 +31,6 @@ returns : tie.Need-returns Inv-loop μ-loop
 returns c = no-more _ _ _ _ (c .loop-test .left) ∙ c .before .loop .inv .1
 
 pub zeros-spec : {M : Type 1} → statement M
-zeros-spec = tie.close (tie.spec Inv-loop μ-loop loop-holds (λ c. search needs) (λ c. search needs) (λ c. search needs) (λ c. search needs) loop-again returns)
+zeros-spec =
+    tie.close (tie.spec Inv-loop μ-loop loop-holds (λ c. search needs) (λ c. search needs) (λ c. search needs)
+    (λ c. search needs) loop-again returns)

@@ -15,6 +15,5 @@ returns c = simp (c .flag .ensures, add-one)
 
 pub flag-and-number-spec : {M : Type 1} → statement M
 flag-and-number-spec =
-    tie.close
-    (tie.spec (λ c. search needs) (λ c. search needs) (λ c. search needs) (λ c. search needs) (λ c. search needs) slice-write-a-2
-    (λ c. search needs) returns)
+    tie.close (tie.spec (λ c. search needs) (λ c. search needs) (λ c. search needs) (λ c. search needs)
+    (λ c. search needs) slice-write-a-2 (λ c. search needs) returns)

@@ -17,7 +17,6 @@ slice-write-a-7 c = simp length-set (omega arith)
 
 pub packet-spec : {M : Type 1} → statement M
 packet-spec =
-    tie.close
-    (tie.spec (λ c. search needs) (λ c. search needs) (λ c. search needs) (λ c. search needs) (λ c. search needs) (λ c. search needs)
-    (λ c. search needs) (λ c. search needs) slice-write-a-5 (λ c. search needs) slice-write-a-6 (λ c. search needs) slice-write-a-7
-    (λ c. search needs) (λ c. search needs))
+    tie.close (tie.spec (λ c. search needs) (λ c. search needs) (λ c. search needs) (λ c. search needs)
+    (λ c. search needs) (λ c. search needs) (λ c. search needs) (λ c. search needs) slice-write-a-5 (λ c. search needs)
+    slice-write-a-6 (λ c. search needs) slice-write-a-7 (λ c. search needs) (λ c. search needs))

@@ -9,5 +9,5 @@ returns c = simp (c .before .before .state-number .ensures, c .flag .ensures)
 
 pub reached-spec : {M : Type 1} → statement M
 reached-spec =
-    tie.close (tie.spec (λ c. search needs) (λ c. search needs) (λ c. search needs) (λ c. search needs) (λ c. search needs) (λ c. search needs)
-    (λ c. search needs) returns)
+    tie.close (tie.spec (λ c. search needs) (λ c. search needs) (λ c. search needs) (λ c. search needs)
+    (λ c. search needs) (λ c. search needs) (λ c. search needs) returns)

@@ -11,10 +11,11 @@ slice-write-a-5 c = simp length-set (omega arith)
 
 returns : tie.Need-returns
 returns c =
-    simp (c .before .before .before .before .flag .ensures, c .before .before .before .flag2 .ensures, c .before .before .flag3 .ensures, c .rule-number .ensures)
+    let after-flag : tie.After-flag = search in
+    simp (after-flag .flag .ensures, c .before .before .before .flag2 .ensures, c .before .before .flag3 .ensures, c .rule-number .ensures)
 
 pub settings-spec : {M : Type 1} → statement M
 settings-spec =
-    tie.close
-    (tie.spec (λ c. search needs) (λ c. search needs) (λ c. search needs) (λ c. search needs) (λ c. search needs) (λ c. search needs)
-    (λ c. search needs) (λ c. search needs) (λ c. search needs) slice-write-a-5 (λ c. search needs) returns)
+    tie.close (tie.spec (λ c. search needs) (λ c. search needs) (λ c. search needs) (λ c. search needs)
+    (λ c. search needs) (λ c. search needs) (λ c. search needs) (λ c. search needs) (λ c. search needs) slice-write-a-5
+    (λ c. search needs) returns)

@@ -6,18 +6,18 @@ use Rattle.validators.proofs.ddw.sanity_check.Tie as tie
 
 returns : tie.Need-returns
 returns c =
-    let c4 = c .before .before .before .before in
-    let c5 = c4 .before in
+    let after-is-reserved-0 : tie.After-is-reserved-0 = search in
+    let after-id : tie.After-id = search in
     simp (
       c .pick3 .ensures .0,
       c .before .pick2 .ensures .0,
       c .before .before .pick .ensures .0,
       c .before .before .before .index .ensures,
-      c4 .is-reserved-0 .ensures,
-      c5 .id .ensures,
+      after-is-reserved-0 .is-reserved-0 .ensures,
+      after-id .id .ensures,
     )
 
 pub sanity-check-spec : {M : Type 1} → statement M
 sanity-check-spec =
-    tie.close (tie.spec (λ c. search needs) (λ c. search needs) (λ c. search needs) (λ c. search needs) (λ c. search needs) (λ c. search needs)
-    (λ c. search needs) returns)
+    tie.close (tie.spec (λ c. search needs) (λ c. search needs) (λ c. search needs) (λ c. search needs)
+    (λ c. search needs) (λ c. search needs) (λ c. search needs) returns)

@@ -6,16 +6,21 @@ use Rattle.validators.proofs.ihw.check_at_initial_ihw.Tie as tie
 
 returns : tie.Need-returns
 returns c =
-    let c2 = c .before .before in
-    let c4 = c2 .before .before in
-    let c6 = c4 .before .before in
-    let c7 = c6 .before in
-    let c10 = c7 .before .before .before in
-    simp (c .when4 .ensures, c2 .when3 .ensures, c4 .when2 .ensures, c6 .when .ensures, c7 .none .ensures, c10 .sanity-check .ensures)
+    let after-when2 : tie.After-when2 = search in
+    let after-when : tie.After-when = search in
+    let after-none : tie.After-none = search in
+    let after-sanity-check : tie.After-sanity-check = search in
+    simp (
+      c .when4 .ensures,
+      c .before .before .when3 .ensures,
+      after-when2 .when2 .ensures,
+      after-when .when .ensures,
+      after-none .none .ensures,
+      after-sanity-check .sanity-check .ensures,
+    )
 
 pub check-at-initial-ihw-spec : {M : Type 1} → statement M
 check-at-initial-ihw-spec =
-    tie.close
-    (tie.spec
-    (λ c. search needs) (λ c. search needs) (λ c. search needs) (λ c. search needs) (λ c. search needs) (λ c. search needs) (λ c. search needs)
-    (λ c. search needs) (λ c. search needs) (λ c. search needs) (λ c. search needs) (λ c. search needs) returns)
+    tie.close (tie.spec (λ c. search needs) (λ c. search needs) (λ c. search needs) (λ c. search needs)
+    (λ c. search needs) (λ c. search needs) (λ c. search needs) (λ c. search needs) (λ c. search needs)
+    (λ c. search needs) (λ c. search needs) (λ c. search needs) returns)

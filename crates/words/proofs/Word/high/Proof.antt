@@ -13,7 +13,10 @@ rem-result c = let a = c .before .args in shl-pos (a .h + 1 - a .l) 16 (omega ar
 returns : tie.Need-returns
 returns c =
     let a = c .before .args in
-    masked (a .self .hi / 2 ^ (a .l - 64)) (a .h + 1 - a .l) 16 _ (omega arith) (high-half (a .h) (a .l) (a .self) (omega arith) (omega arith))
+    masked (a .self .hi / 2 ^ (a .l - 64)) (a .h + 1 - a .l) 16 _ (omega arith)
+    (high-half (a .h) (a .l) (a .self) (omega arith) (omega arith))
 
 pub high-spec : {M : Type 1} → statement M
-high-spec = tie.close (tie.spec (search needs) (search needs) (search needs) (search needs) (search needs) (search needs) (search needs) rem-result returns)
+high-spec =
+    tie.close (tie.spec (search needs) (search needs) (search needs) (search needs) (search needs) (search needs)
+    (search needs) rem-result returns)

@@ -11,14 +11,14 @@ use Rattle.words.proofs.Word.load_at.Tie as tie
 
 returns : tie.Need-returns
 returns c =
-    let c6 = c .before .before .before .before .before .before in
-    let s = c6 .before .before .before .before .before .before in
-    c .load .ensures ∙ ap wordOf (simp add-zero at (reads-part 0 10 (s .args .at) (now (s .args .bytes)) (s .pre)))
+    let start : tie.Start = search in
+    c .load .ensures ∙ ap wordOf (simp add-zero
+    at (reads-part 0 10 (start .args .at) (now (start .args .bytes)) (start .pre)))
 
 pub load-at-spec : {M : Type 1} → statement M
 load-at-spec =
-    tie.close
-    (tie.spec (λ c. search needs) (λ c. search needs) (λ c. search needs) (λ c. search needs) (λ c. search needs) (λ c. search needs)
-    (λ c. search needs) (λ c. search needs) (λ c. search needs) (λ c. search needs) (λ c. search needs) (λ c. search needs)
-    (λ c. search needs) (λ c. search needs) (λ c. search needs) (λ c. search needs) (λ c. search needs) (λ c. search needs)
-    (λ c. search needs) (λ c. search needs) returns)
+    tie.close (tie.spec (λ c. search needs) (λ c. search needs) (λ c. search needs) (λ c. search needs)
+    (λ c. search needs) (λ c. search needs) (λ c. search needs) (λ c. search needs) (λ c. search needs)
+    (λ c. search needs) (λ c. search needs) (λ c. search needs) (λ c. search needs) (λ c. search needs)
+    (λ c. search needs) (λ c. search needs) (λ c. search needs) (λ c. search needs) (λ c. search needs)
+    (λ c. search needs) returns)

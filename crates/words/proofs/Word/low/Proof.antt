@@ -13,7 +13,9 @@ rem-result c = let a = c .before .args in shl-pos (a .h + 1 - a .l) 64 (omega ar
 returns : tie.Need-returns
 returns c =
     let a = c .before .args in
-    masked (a .self .lo / 2 ^ a .l) (a .h + 1 - a .l) 64 _ (omega arith) (low-half (a .h) (a .l) (a .self) (omega arith) (omega arith) (omega arith))
+    masked (a .self .lo / 2 ^ a .l) (a .h + 1 - a .l) 64 _ (omega arith)
+    (low-half (a .h) (a .l) (a .self) (omega arith) (omega arith) (omega arith))
 
 pub low-spec : {M : Type 1} → statement M
-low-spec = tie.close (tie.spec (search needs) (search needs) (search needs) (search needs) (search needs) rem-result returns)
+low-spec =
+    tie.close (tie.spec (search needs) (search needs) (search needs) (search needs) (search needs) rem-result returns)

@@ -22,4 +22,5 @@ returns-2 : tie.Need-returns-2
 returns-2 c = simp (le-ltb _ _ (c .if1 .left))
 
 pub ddw0-tdt-lane-status-spec : {M : Type 1} → statement M
-ddw0-tdt-lane-status-spec = tie.close (tie.spec (search needs) (search needs) (search needs) (search needs) cast-result returns returns-2)
+ddw0-tdt-lane-status-spec =
+    tie.close (tie.spec (search needs) (search needs) (search needs) (search needs) cast-result returns returns-2)

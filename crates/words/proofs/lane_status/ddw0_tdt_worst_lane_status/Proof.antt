@@ -11,18 +11,18 @@ returns c = omega (arith, worst-at-once (c .before .before .before .args .word) 
 
 returns-2 : tie.Need-returns-2
 returns-2 c =
-    let c4 = c .before .before .before .before in
-    omega (arith, worst-at-once (c4 .args .word) (omega arith) lanes (omega arith))
+    let start : tie.Start = search in
+    omega (arith, worst-at-once (start .args .word) (omega arith) lanes (omega arith))
 
 returns-3 : tie.Need-returns-3
 returns-3 c =
-    let c5 = c .before .before .before .before .before in
-    omega (arith, worst-at-once (c5 .args .word) (omega arith) lanes (omega arith))
+    let start : tie.Start = search in
+    omega (arith, worst-at-once (start .args .word) (omega arith) lanes (omega arith))
 
 returns-4 : tie.Need-returns-4
 returns-4 c =
-    let c5 = c .before .before .before .before .before in
-    omega (arith, worst-at-once (c5 .args .word) (omega arith) lanes (omega arith))
+    let start : tie.Start = search in
+    omega (arith, worst-at-once (start .args .word) (omega arith) lanes (omega arith))
 
 pub ddw0-tdt-worst-lane-status-spec : {M : Type 1} → statement M
 ddw0-tdt-worst-lane-status-spec = tie.close (tie.spec returns returns-2 returns-3 returns-4)

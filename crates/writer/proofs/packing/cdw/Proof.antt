@@ -21,10 +21,12 @@ returns c =
     let a = c .before .before .before .args in
     let e = c .before .before .if1 .taken in
     let (u, j) = simp tests at e in
-    is-packed (F.Cdw (a .user) (a .index)) _ (cdw-fit (a .user) (a .index) ∙ e) (omega arith) (omega arith) (omega arith)
+    is-packed (F.Cdw (a .user) (a .index)) _ (cdw-fit (a .user) (a .index) ∙ e) (omega arith) (omega arith)
+    (omega arith)
 
 returns-2 : tie.Need-returns-2
-returns-2 c = let a = c .before .args in not-packed (F.Cdw (a .user) (a .index)) (cdw-fit (a .user) (a .index) ∙ c .if1 .left)
+returns-2 c =
+    let a = c .before .args in not-packed (F.Cdw (a .user) (a .index)) (cdw-fit (a .user) (a .index) ∙ c .if1 .left)
 
 pub cdw-spec : {M : Type 1} → statement M
 cdw-spec = tie.close (tie.spec cdw-low-requires cdw-high-requires returns returns-2)

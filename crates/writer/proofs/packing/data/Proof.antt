@@ -27,7 +27,8 @@ unfolding put
 returns c =
     let a = c .before .before .before .args in
     is-packed (F.Data (a .id) (a .low) (a .high)) _
-    (data-fit (a .id) (a .low) (a .high) (omega arith) ∙ ap (λ (b : Bool). ltb (a .high) 256 && b) (sym (c .before .before .is-data-id .ensures)) ∙ c .before .if1 .taken)
+    (data-fit (a .id) (a .low) (a .high) (omega arith)
+    ∙ ap (λ (b : Bool). ltb (a .high) 256 && b) (sym (c .before .before .is-data-id .ensures)) ∙ c .before .if1 .taken)
     (omega arith)
     (omega arith)
     (omega arith)
@@ -36,7 +37,8 @@ returns-2 : tie.Need-returns-2
 returns-2 c =
     let a = c .before .before .args in
     not-packed (F.Data (a .id) (a .low) (a .high))
-    (data-fit (a .id) (a .low) (a .high) (omega arith) ∙ ap (λ (b : Bool). ltb (a .high) 256 && b) (sym (c .before .is-data-id .ensures)) ∙ c .if1 .left)
+    (data-fit (a .id) (a .low) (a .high) (omega arith)
+    ∙ ap (λ (b : Bool). ltb (a .high) 256 && b) (sym (c .before .is-data-id .ensures)) ∙ c .if1 .left)
 
 pub data-spec : {M : Type 1} → statement M
 data-spec = tie.close (tie.spec is-data-id-requires data-high-requires returns returns-2)

@@ -27,7 +27,8 @@ returns c =
 returns-2 : tie.Need-returns-2
 returns-2 c =
     let a = c .before .args in
-    not-packed (F.Ddw0 (a .lanes) (a .violation) (a .transmission) (a .index)) (ddw0-fit (a .lanes) (a .violation) (a .transmission) (a .index) ∙ c .if1 .left)
+    not-packed (F.Ddw0 (a .lanes) (a .violation) (a .transmission) (a .index))
+    (ddw0-fit (a .lanes) (a .violation) (a .transmission) (a .index) ∙ c .if1 .left)
 
 pub ddw0-spec : {M : Type 1} → statement M
 ddw0-spec = tie.close (tie.spec ddw0-high-requires returns returns-2)

@@ -31,7 +31,8 @@ returns-2 : tie.Need-returns-2
 returns-2 c =
     let a = c .before .args in
     not-packed (F.Tdt (a .lanes) (a .to-start) (a .start-stop) (a .idle) (a .violation) (a .transmission) (a .done))
-    (tdt-fit (a .lanes) (a .to-start) (a .start-stop) (a .idle) (a .violation) (a .transmission) (a .done) ∙ c .if1 .left)
+    (tdt-fit (a .lanes) (a .to-start) (a .start-stop) (a .idle) (a .violation) (a .transmission) (a .done)
+    ∙ c .if1 .left)
 
 pub tdt-spec : {M : Type 1} → statement M
 tdt-spec = tie.close (tie.spec tdt-low-requires tdt-high-requires returns returns-2)
