@@ -31,7 +31,7 @@ abbrev pub periodic : Rule → ℕ → Settings
 periodic rule n = record { running = true; frames = true; periodic = true; period = n; rule = rule }
 
 abbrev pub earlier : ℕ → ℕ → InternalTdh
-earlier bc orbit = record { stored = true; bc = bc; orbit = orbit }
+earlier bc orbit = record { present = true; bc = bc; orbit = orbit }
 
 -- What a row says of the definitions.
 abbrev pub Holds : Edge → Type 0

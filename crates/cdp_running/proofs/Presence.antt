@@ -53,9 +53,9 @@ read S.CTdh w = all-after refl refl
 
 -- The Rust's unwraps: `status_words.ihw().unwrap()` at a data word, `status_words.prv_tdh()` at a TDH that is compared with the previous one.
 pub record Unwraps (t : Tracker) (w : Word) : Type 0 where
-  pub ihw : isData (takenAs t w .word) ≡ true → t .stored .ihw .stored ≡ true
-  pub previous-after-packet-done : takenAs t w .word ≡ K.TdhAfterPacketDone → t .stored .tdh .stored ≡ true
-  pub previous-continuation : takenAs t w .word ≡ K.TdhContinuation → t .stored .tdh .stored ≡ true
+  pub ihw : isData (takenAs t w .word) ≡ true → t .stored .ihw .present ≡ true
+  pub previous-after-packet-done : takenAs t w .word ≡ K.TdhAfterPacketDone → t .stored .tdh .present ≡ true
+  pub previous-continuation : takenAs t w .word ≡ K.TdhContinuation → t .stored .tdh .present ≡ true
 
 pub unwraps : (t : Tracker) → Good t → (w : Word) → Unwraps t w
 unwraps t g w =

@@ -82,8 +82,8 @@ pub record Good (t : Tracker) : Type 0 where
   pub count : t .at .count ≤ maxWords
   pub stored : GoodStored (t .stored)
   pub frame : GoodFrame (t .settings .frames) (t .frame)
-  pub ihw-present : pastIhw (t .at .fsm .state) ≡ true → t .stored .ihw .stored ≡ true
-  pub tdh-present : pastTdh (t .at .fsm .state) ≡ true → t .stored .tdh .stored ≡ true
+  pub ihw-present : pastIhw (t .at .fsm .state) ≡ true → t .stored .ihw .present ≡ true
+  pub tdh-present : pastTdh (t .at .fsm .state) ≡ true → t .stored .tdh .present ≡ true
   pub fresh : t .accepted ≡ false → t ≡ startOf (t .settings)
 
 -- What a packet call gives.

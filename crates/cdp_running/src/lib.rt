@@ -169,22 +169,22 @@ impl Tracker {
             },
             stored: Stored {
                 ihw: StoredIhw {
-                    stored: false,
+                    present: false,
                     lanes: 0,
                 },
                 tdh: StoredTdh {
-                    stored: false,
+                    present: false,
                     trigger: 0,
                     bc: 0,
                     orbit: 0,
                 },
                 internal: InternalTdh {
-                    stored: false,
+                    present: false,
                     bc: 0,
                     orbit: 0,
                 },
                 cdw: StoredCdw {
-                    stored: false,
+                    present: false,
                     user: 0,
                 },
             },

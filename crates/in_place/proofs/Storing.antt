@@ -58,13 +58,13 @@ module _ (t : Tracker) (s : State) (w : Word) where
       (record {
         ihw = t .stored .ihw;
         tdh = record {
-          stored = true;
+          present = true;
           trigger = triggerType w;
           bc = triggerBc w;
           orbit = triggerOrbit w;
         };
         internal = cond internal
-            (record { stored = true; bc = triggerBc w; orbit = triggerOrbit w }) (t .stored .internal);
+            (record { present = true; bc = triggerBc w; orbit = triggerOrbit w }) (t .stored .internal);
         cdw = t .stored .cdw;
       })
       (cond opens (record { opened = true; start = here }) (t .frame))
@@ -79,7 +79,7 @@ module _ (t : Tracker) (s : State) (w : Word) where
         ihw = t .stored .ihw;
         tdh = t .stored .tdh;
         internal = t .stored .internal;
-        cdw = cond first (record { stored = true; user = userFields w }) (t .stored .cdw);
+        cdw = cond first (record { present = true; user = userFields w }) (t .stored .cdw);
       }) (t .frame)
   unfolding encodeOf
   data-if true = refl

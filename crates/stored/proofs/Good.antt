@@ -76,20 +76,20 @@ good-frame true kind w position old h g =
 good-frame false kind w position old h g = simp and-false g
 
 -- What was taken is stored, and what was stored stays.
-pub kept-ihw : (kind : ItsPayloadWord) (w : Word) (old : StoredIhw) (after : Bool) → (after ≡ true → old .stored ≡ true)
-    → (isIhw kind || after) ≡ true → nextIhw kind w old .stored ≡ true
+pub kept-ihw : (kind : ItsPayloadWord) (w : Word) (old : StoredIhw) (after : Bool) → (after ≡ true → old .present ≡ true)
+    → (isIhw kind || after) ≡ true → nextIhw kind w old .present ≡ true
 kept-ihw kind w old after h e = at (isIhw kind) e
   where
-    at : (b : Bool) → (b || after) ≡ true → cond b (record { stored = true; lanes = activeLanes w }) old .stored ≡ true
+    at : (b : Bool) → (b || after) ≡ true → cond b (record { present = true; lanes = activeLanes w }) old .present ≡ true
     at true e = refl
     at false e = h e
 
-pub kept-tdh : (kind : ItsPayloadWord) (w : Word) (old : StoredTdh) (after : Bool) → (after ≡ true → old .stored ≡ true)
-    → (isTdh kind || after) ≡ true → nextTdh kind w old .stored ≡ true
+pub kept-tdh : (kind : ItsPayloadWord) (w : Word) (old : StoredTdh) (after : Bool) → (after ≡ true → old .present ≡ true)
+    → (isTdh kind || after) ≡ true → nextTdh kind w old .present ≡ true
 kept-tdh kind w old after h e = at (isTdh kind) e
   where
     at : (b : Bool) → (b || after) ≡ true
-        → cond b (record { stored = true; trigger = triggerType w; bc = triggerBc w; orbit = triggerOrbit w })
-        old .stored ≡ true
+        → cond b (record { present = true; trigger = triggerType w; bc = triggerBc w; orbit = triggerOrbit w })
+        old .present ≡ true
     at true e = refl
     at false e = h e

@@ -13,16 +13,16 @@ use Rattle.stored.specs.declared.Frame.{Frame}
 
 -- "a presence flag beside fields": nothing stored, no frame open, all zeros.
 abbrev pub noIhw : StoredIhw
-noIhw = record { stored = false; lanes = 0 }
+noIhw = record { present = false; lanes = 0 }
 
 abbrev pub noTdh : StoredTdh
-noTdh = record { stored = false; trigger = 0; bc = 0; orbit = 0 }
+noTdh = record { present = false; trigger = 0; bc = 0; orbit = 0 }
 
 abbrev pub noInternal : InternalTdh
-noInternal = record { stored = false; bc = 0; orbit = 0 }
+noInternal = record { present = false; bc = 0; orbit = 0 }
 
 abbrev pub noCdw : StoredCdw
-noCdw = record { stored = false; user = 0 }
+noCdw = record { present = false; user = 0 }
 
 abbrev pub noStored : Stored
 noStored = record { ihw = noIhw; tdh = noTdh; internal = noInternal; cdw = noCdw }
@@ -33,20 +33,20 @@ noFrame = record { opened = false; start = 0 }
 -- What is stored fits its bits, and is 0 where it is absent.
 pub record GoodIhw (i : StoredIhw) : Type 0 where
   pub lanes : i .lanes < 2 ^ 28
-  pub absent : i .stored ≡ false → i ≡ noIhw
+  pub absent : i .present ≡ false → i ≡ noIhw
 
 pub record GoodTdh (h : StoredTdh) : Type 0 where
   pub trigger : h .trigger < 2 ^ 12
   pub bc : h .bc < 2 ^ 12
-  pub absent : h .stored ≡ false → h ≡ noTdh
+  pub absent : h .present ≡ false → h ≡ noTdh
 
 pub record GoodInternal (i : InternalTdh) : Type 0 where
   pub bc : i .bc < 2 ^ 12
-  pub absent : i .stored ≡ false → i ≡ noInternal
+  pub absent : i .present ≡ false → i ≡ noInternal
 
 pub record GoodCdw (c : StoredCdw) : Type 0 where
   pub user : c .user < 2 ^ 48
-  pub absent : c .stored ≡ false → c ≡ noCdw
+  pub absent : c .present ≡ false → c ≡ noCdw
 
 pub record GoodStored (s : Stored) : Type 0 where
   pub ihw : GoodIhw (s .ihw)

@@ -23,17 +23,17 @@ use Rattle.stored.specs.Kept.{noFrame}
 
 -- "IHW, continuation too: .. Stored after that, whatever its id; the active lanes are those of the one last stored."
 abbrev pub nextIhw : ItsPayloadWord → Word → StoredIhw → StoredIhw
-nextIhw kind w old = cond (isIhw kind) (record { stored = true; lanes = activeLanes w }) old
+nextIhw kind w old = cond (isIhw kind) (record { present = true; lanes = activeLanes w }) old
 
 -- "TDH: .. Stored after that, whatever its kind and id"
 abbrev pub nextTdh : ItsPayloadWord → Word → StoredTdh → StoredTdh
 nextTdh kind w old =
-    cond (isTdh kind) (record { stored = true; trigger = triggerType w; bc = triggerBc w; orbit = triggerOrbit w }) old
+    cond (isTdh kind) (record { present = true; trigger = triggerType w; bc = triggerBc w; orbit = triggerOrbit w }) old
 
 -- "this TDH is internal and an earlier one was (the last such)"; 02, ticket 9: with its orbit.
 abbrev pub nextInternal : ItsPayloadWord → Word → InternalTdh → InternalTdh
 nextInternal kind w old =
-    cond (isTdh kind && eqb (internalTrigger w) 1) (record { stored = true; bc = triggerBc w; orbit = triggerOrbit w }) old
+    cond (isTdh kind && eqb (internalTrigger w) 1) (record { present = true; bc = triggerBc w; orbit = triggerOrbit w }) old
 
 -- "with no data seen yet in this packet and id 0xF8"
 abbrev pub firstCdw : Bool → Word → Bool
@@ -41,7 +41,7 @@ firstCdw seen w = not seen && eqb (idOf w) cdwId
 
 -- ".. then it is stored"
 abbrev pub nextCdw : ItsPayloadWord → Bool → Word → StoredCdw → StoredCdw
-nextCdw kind seen w old = cond (isData kind && firstCdw seen w) (record { stored = true; user = userFields w }) old
+nextCdw kind seen w old = cond (isData kind && firstCdw seen w) (record { present = true; user = userFields w }) old
 
 -- All that is stored.
 abbrev pub nextStored : ItsPayloadWord → Bool → Word → Stored → Stored

@@ -3,13 +3,13 @@ pub mod next;
 
 // Of the IHW stored last, what is read again.
 pub struct StoredIhw {
-    pub stored: bool,
+    pub present: bool,
     pub lanes: u32,
 }
 
 // Of the TDH stored last, what is read again.
 pub struct StoredTdh {
-    pub stored: bool,
+    pub present: bool,
     pub trigger: u16,
     pub bc: u16,
     pub orbit: u32,
@@ -17,14 +17,14 @@ pub struct StoredTdh {
 
 // Of the last TDH with internal trigger, what is read again.
 pub struct InternalTdh {
-    pub stored: bool,
+    pub present: bool,
     pub bc: u16,
     pub orbit: u32,
 }
 
 // Of the CDW stored last, what is read again.
 pub struct StoredCdw {
-    pub stored: bool,
+    pub present: bool,
     pub user: u64,
 }
 

@@ -22,7 +22,7 @@ fn ihw(kind: ItsPayloadWord, word: Word, old: StoredIhw) -> StoredIhw
     if kind.is_ihw() {
         let ihw = Ihw { word: word };
         StoredIhw {
-            stored: true,
+            present: true,
             lanes: ihw.active_lanes(),
         }
     } else {
@@ -36,7 +36,7 @@ fn tdh(kind: ItsPayloadWord, word: Word, old: StoredTdh) -> StoredTdh
     if kind.is_tdh() {
         let tdh = Tdh { word: word };
         StoredTdh {
-            stored: true,
+            present: true,
             trigger: tdh.trigger_type(),
             bc: tdh.trigger_bc(),
             orbit: tdh.trigger_orbit(),
@@ -54,7 +54,7 @@ fn internal(kind: ItsPayloadWord, word: Word, old: InternalTdh) -> InternalTdh
     let internal = tdh.internal_trigger();
     if is_tdh & (internal == 1) {
         InternalTdh {
-            stored: true,
+            present: true,
             bc: tdh.trigger_bc(),
             orbit: tdh.trigger_orbit(),
         }
@@ -79,7 +79,7 @@ fn cdw(kind: ItsPayloadWord, seen: bool, word: Word, old: StoredCdw) -> StoredCd
     if is_data & first {
         let cdw = Cdw { word: word };
         StoredCdw {
-            stored: true,
+            present: true,
             user: cdw.calibration_user_fields(),
         }
     } else {

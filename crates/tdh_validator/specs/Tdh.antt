@@ -70,7 +70,7 @@ foundBy rule difference previous current =
 
 -- "if a period is set, this TDH is internal and an earlier one was (the last such)"
 abbrev pub asked : Settings → InternalTdh → Word → Bool
-asked s earlier w = s .running && (s .periodic && (eqb (internalTrigger w) 1 && earlier .stored))
+asked s earlier w = s .running && (s .periodic && (eqb (internalTrigger w) 1 && earlier .present))
 
 -- Of two internal TDHs and their orbit difference, if they are looked at: "when either BC is above 3563, 1045 (previous, current); else 45 if the
 -- period differs (found, set)." 02, ticket 9: "time ran back: record 1046 (previous, current BC) in place of 45. 1045 comes before both."

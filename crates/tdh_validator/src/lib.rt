@@ -107,7 +107,7 @@ pub fn check_trigger_interval(settings: Settings, earlier: InternalTdh, word: Wo
 {
     let tdh = Tdh { word: word };
     let internal = tdh.internal_trigger();
-    let looked = settings.running & (settings.periodic & ((internal == 1) & earlier.stored));
+    let looked = settings.running & (settings.periodic & ((internal == 1) & earlier.present));
     let rule = settings.rule;
     let difference = orbit_difference(earlier.orbit, tdh.trigger_orbit());
     let bc = tdh.trigger_bc();

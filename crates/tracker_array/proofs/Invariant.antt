@@ -32,7 +32,7 @@ settings-is s = simp tests (λ (low, zero). (low, record { absent = zero }), λ 
 
 ihw-is : (i : StoredIhw) → (ihwGood i ≡ true) ↔ GoodIhw i
 ihw-is i =
-    simp tests (λ (low, zero). record { lanes = low; absent = λ o j. record { stored = o j; lanes = zero o j } }, λ g. (g .lanes, λ o. cc (g .absent o)))
+    simp tests (λ (low, zero). record { lanes = low; absent = λ o j. record { present = o j; lanes = zero o j } }, λ g. (g .lanes, λ o. cc (g .absent o)))
 
 tdh-is : (h : StoredTdh) → (tdhGood h ≡ true) ↔ ((h .orbit < 2 ^ 32) × GoodTdh h)
 tdh-is h =
@@ -43,7 +43,7 @@ tdh-is h =
           trigger =
               trigger;
           bc = bc;
-          absent = λ o j. record { stored = o j; trigger = zero o .0 j; bc = zero o .1 .0 j; orbit = zero o .1 .1 j };
+          absent = λ o j. record { present = o j; trigger = zero o .0 j; bc = zero o .1 .0 j; orbit = zero o .1 .1 j };
         },
       ),
       λ (orbit, g). (g .trigger, (g .bc, (orbit, λ o. let e = g .absent o in (cc, (cc, cc))))),
@@ -52,13 +52,13 @@ tdh-is h =
 internal-is : (i : InternalTdh) → (internalGood i ≡ true) ↔ ((i .orbit < 2 ^ 32) × GoodInternal i)
 internal-is i =
     simp tests (
-      λ (bc, (orbit, zero)). (orbit, record { bc = bc; absent = λ o j. record { stored = o j; bc = zero o .0 j; orbit = zero o .1 j } }),
+      λ (bc, (orbit, zero)). (orbit, record { bc = bc; absent = λ o j. record { present = o j; bc = zero o .0 j; orbit = zero o .1 j } }),
       λ (orbit, g). (g .bc, (orbit, λ o. let e = g .absent o in (cc, cc))),
     )
 
 cdw-is : (c : StoredCdw) → (cdwGood c ≡ true) ↔ GoodCdw c
 cdw-is c =
-    simp tests (λ (low, zero). record { user = low; absent = λ o j. record { stored = o j; user = zero o j } }, λ g. (g .user, λ o. cc (g .absent o)))
+    simp tests (λ (low, zero). record { user = low; absent = λ o j. record { present = o j; user = zero o j } }, λ g. (g .user, λ o. cc (g .absent o)))
 
 frame-is : (frames : Bool) (f : Frame) → (frameGood frames f ≡ true) ↔ GoodFrame frames f
 frame-is frames f =

@@ -66,16 +66,16 @@ abbrev pub packetNumbers : Packet → List ℕ
 packetNumbers p = p .position ∷ p .orbit ∷ p .trigger ∷ p .bc ∷ p .page ∷ p .stop ∷ p .format ∷ []
 
 abbrev pub ihwNumbers : StoredIhw → List ℕ
-ihwNumbers i = flag (i .stored) ∷ i .lanes ∷ []
+ihwNumbers i = flag (i .present) ∷ i .lanes ∷ []
 
 abbrev pub tdhNumbers : StoredTdh → List ℕ
-tdhNumbers h = flag (h .stored) ∷ h .trigger ∷ h .bc ∷ h .orbit ∷ []
+tdhNumbers h = flag (h .present) ∷ h .trigger ∷ h .bc ∷ h .orbit ∷ []
 
 abbrev pub internalNumbers : InternalTdh → List ℕ
-internalNumbers i = flag (i .stored) ∷ i .bc ∷ i .orbit ∷ []
+internalNumbers i = flag (i .present) ∷ i .bc ∷ i .orbit ∷ []
 
 abbrev pub cdwNumbers : StoredCdw → List ℕ
-cdwNumbers c = flag (c .stored) ∷ c .user ∷ []
+cdwNumbers c = flag (c .present) ∷ c .user ∷ []
 
 abbrev pub frameNumbers : Frame → List ℕ
 frameNumbers f = flag (f .opened) ∷ f .start ∷ []

@@ -55,16 +55,16 @@ packetIn a =
     }
 
 abbrev pub ihwIn : List ℕ → StoredIhw
-ihwIn a = record { stored = isOn (place a P.ihw); lanes = place a P.lanes }
+ihwIn a = record { present = isOn (place a P.ihw); lanes = place a P.lanes }
 
 abbrev pub tdhIn : List ℕ → StoredTdh
-tdhIn a = record { stored = isOn (place a P.tdh); trigger = place a P.tdhTrigger; bc = place a P.tdhBc; orbit = place a P.tdhOrbit }
+tdhIn a = record { present = isOn (place a P.tdh); trigger = place a P.tdhTrigger; bc = place a P.tdhBc; orbit = place a P.tdhOrbit }
 
 abbrev pub internalIn : List ℕ → InternalTdh
-internalIn a = record { stored = isOn (place a P.internal); bc = place a P.internalBc; orbit = place a P.internalOrbit }
+internalIn a = record { present = isOn (place a P.internal); bc = place a P.internalBc; orbit = place a P.internalOrbit }
 
 abbrev pub cdwIn : List ℕ → StoredCdw
-cdwIn a = record { stored = isOn (place a P.cdw); user = place a P.cdwUser }
+cdwIn a = record { present = isOn (place a P.cdw); user = place a P.cdwUser }
 
 abbrev pub storedIn : List ℕ → Stored
 storedIn a = record { ihw = ihwIn a; tdh = tdhIn a; internal = internalIn a; cdw = cdwIn a }
@@ -107,20 +107,20 @@ abbrev pub settingsGood : Settings → Bool
 settingsGood s = ltb (s .period) (2 ^ 32) && (s .periodic || eqb (s .period) 0)
 
 abbrev pub ihwGood : StoredIhw → Bool
-ihwGood i = ltb (i .lanes) (2 ^ 28) && (i .stored || eqb (i .lanes) 0)
+ihwGood i = ltb (i .lanes) (2 ^ 28) && (i .present || eqb (i .lanes) 0)
 
 abbrev pub tdhGood : StoredTdh → Bool
 tdhGood h =
     ltb (h .trigger) (2 ^ 12)
     && (ltb (h .bc) (2 ^ 12)
-    && (ltb (h .orbit) (2 ^ 32) && (h .stored || (eqb (h .trigger) 0 && (eqb (h .bc) 0 && eqb (h .orbit) 0)))))
+    && (ltb (h .orbit) (2 ^ 32) && (h .present || (eqb (h .trigger) 0 && (eqb (h .bc) 0 && eqb (h .orbit) 0)))))
 
 abbrev pub internalGood : InternalTdh → Bool
 internalGood i =
-    ltb (i .bc) (2 ^ 12) && (ltb (i .orbit) (2 ^ 32) && (i .stored || (eqb (i .bc) 0 && eqb (i .orbit) 0)))
+    ltb (i .bc) (2 ^ 12) && (ltb (i .orbit) (2 ^ 32) && (i .present || (eqb (i .bc) 0 && eqb (i .orbit) 0)))
 
 abbrev pub cdwGood : StoredCdw → Bool
-cdwGood c = ltb (c .user) (2 ^ 48) && (c .stored || eqb (c .user) 0)
+cdwGood c = ltb (c .user) (2 ^ 48) && (c .present || eqb (c .user) 0)
 
 abbrev pub frameGood : Bool → Frame → Bool
 frameGood frames f = leb (f .start) mostPosition && ((f .opened || eqb (f .start) 0) && (frames || not (f .opened)))
@@ -129,9 +129,9 @@ abbrev pub storedGood : Bool → Stored → Frame → Bool
 storedGood frames s f =
     ihwGood (s .ihw) && (tdhGood (s .tdh) && (internalGood (s .internal) && (cdwGood (s .cdw) && frameGood frames f)))
 
--- An IHW is stored outside the start state, and a TDH wherever a previous one is read.
-abbrev pub present : State → Stored → Bool
-present state s = (not (pastIhw state) || s .ihw .stored) && (not (pastTdh state) || s .tdh .stored)
+-- What a state goes by is there: an IHW outside the start state, and a TDH wherever a previous one is read.
+abbrev pub nothingMissing : State → Stored → Bool
+nothingMissing state s = (not (pastIhw state) || s .ihw .present) && (not (pastTdh state) || s .tdh .present)
 
 -- No packet, and the rest as the start gave it, but for the settings.
 abbrev pub packetBlank : Packet → Bool
@@ -154,8 +154,8 @@ blank t =
     inStart (t .at .fsm .state)
     && (eqb (t .at .count) 0
     && (not (t .at .seen)
-    && (not (t .stored .ihw .stored)
-    && (not (t .stored .tdh .stored) && (not (t .stored .internal .stored) && (not (t .stored .cdw .stored) && not (t .frame .opened)))))))
+    && (not (t .stored .ihw .present)
+    && (not (t .stored .tdh .present) && (not (t .stored .internal .present) && (not (t .stored .cdw .present) && not (t .frame .opened)))))))
 
 abbrev pub isGood : Tracker → Bool
 isGood t =
@@ -163,7 +163,7 @@ isGood t =
     && (inRange (t .packet)
     && (leb (t .at .count) maxWords
     && (storedGood (t .settings .frames) (t .stored) (t .frame)
-    && (present (t .at .fsm .state) (t .stored) && (t .accepted || (packetBlank (t .packet) && blank t))))))
+    && (nothingMissing (t .at .fsm .state) (t .stored) && (t .accepted || (packetBlank (t .packet) && blank t))))))
 
 -- The length, the form, one of the seven states, and the invariant.
 unfoldable pub isTracker : List ℕ → Bool

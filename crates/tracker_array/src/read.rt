@@ -45,7 +45,7 @@ pub fn ihw(a: &[u64]) -> StoredIhw
     ensures { λ r. ⌜ r ≡ ihwIn (now (a .entry)) ⌝ }
 {
     StoredIhw {
-        stored: a[place::IHW] == 1,
+        present: a[place::IHW] == 1,
         lanes: a[place::LANES] as u32,
     }
 }
@@ -55,7 +55,7 @@ pub fn tdh(a: &[u64]) -> StoredTdh
     ensures { λ r. ⌜ r ≡ tdhIn (now (a .entry)) ⌝ }
 {
     StoredTdh {
-        stored: a[place::TDH] == 1,
+        present: a[place::TDH] == 1,
         trigger: a[place::TDH_TRIGGER] as u16,
         bc: a[place::TDH_BC] as u16,
         orbit: a[place::TDH_ORBIT] as u32,
@@ -67,7 +67,7 @@ pub fn internal(a: &[u64]) -> InternalTdh
     ensures { λ r. ⌜ r ≡ internalIn (now (a .entry)) ⌝ }
 {
     InternalTdh {
-        stored: a[place::INTERNAL] == 1,
+        present: a[place::INTERNAL] == 1,
         bc: a[place::INTERNAL_BC] as u16,
         orbit: a[place::INTERNAL_ORBIT] as u32,
     }
@@ -78,7 +78,7 @@ pub fn cdw(a: &[u64]) -> StoredCdw
     ensures { λ r. ⌜ r ≡ cdwIn (now (a .entry)) ⌝ }
 {
     StoredCdw {
-        stored: a[place::CDW] == 1,
+        present: a[place::CDW] == 1,
         user: a[place::CDW_USER],
     }
 }

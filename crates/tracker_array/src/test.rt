@@ -7,7 +7,7 @@ ghost use lib.ListN.{length};
 ghost use Rattle.packet.specs.Packet.{inRange, maxWords};
 ghost use Rattle.tracker_array.specs.Array.{size, isOn};
 ghost use Rattle.tracker_array.specs.Place as P;
-ghost use Rattle.tracker_array.specs.Read.{place, settingsIn, packetIn, ihwIn, tdhIn, internalIn, cdwIn, storedIn, frameIn, trackerIn, flagsFit, zerosFrom, inForm, settingsGood, ihwGood, tdhGood, internalGood, cdwGood, frameGood, storedGood, present, isGood};
+ghost use Rattle.tracker_array.specs.Read.{place, settingsIn, packetIn, ihwIn, tdhIn, internalIn, cdwIn, storedIn, frameIn, trackerIn, flagsFit, zerosFrom, inForm, settingsGood, ihwGood, tdhGood, internalGood, cdwGood, frameGood, storedGood, nothingMissing, isGood};
 ghost use Rattle.tracker_array.specs.Good.{InForm};
 use crate::MARK;
 use crate::SIZE;
@@ -96,17 +96,18 @@ fn tdh(a: &[u64]) -> bool
     requires { ⌜ InForm (now a) ⌝ }
     ensures { λ r. ⌜ r ≡ tdhGood (tdhIn (now (a .entry))) ⌝ }
 {
-    let stored = a[place::TDH];
-    fits(stored, 0xFFF, a[place::TDH_TRIGGER])
-        & (fits(stored, 0xFFF, a[place::TDH_BC]) & fits(stored, 0xFFFF_FFFF, a[place::TDH_ORBIT]))
+    let present = a[place::TDH];
+    fits(present, 0xFFF, a[place::TDH_TRIGGER])
+        & (fits(present, 0xFFF, a[place::TDH_BC]) & fits(present, 0xFFFF_FFFF, a[place::TDH_ORBIT]))
 }
 
 fn internal(a: &[u64]) -> bool
     requires { ⌜ InForm (now a) ⌝ }
     ensures { λ r. ⌜ r ≡ internalGood (internalIn (now (a .entry))) ⌝ }
 {
-    let stored = a[place::INTERNAL];
-    fits(stored, 0xFFF, a[place::INTERNAL_BC]) & fits(stored, 0xFFFF_FFFF, a[place::INTERNAL_ORBIT])
+    let present = a[place::INTERNAL];
+    fits(present, 0xFFF, a[place::INTERNAL_BC])
+        & fits(present, 0xFFFF_FFFF, a[place::INTERNAL_ORBIT])
 }
 
 fn cdw(a: &[u64]) -> bool
@@ -159,9 +160,9 @@ fn stored_good(a: &[u64]) -> bool
 }
 
 // The state is one of the seven: 0 where no IHW is stored, and 0 or 1 where no TDH is.
-fn present(a: &[u64]) -> bool
+fn nothing_missing(a: &[u64]) -> bool
     requires { ⌜ InForm (now a) ⌝ }
-    ensures { λ r. ⌜ r ≡ (leb (place (now (a .entry)) P.state) 6 && present (trackerIn (now (a .entry)) .at .fsm .state) (storedIn (now (a .entry)))) ⌝ }
+    ensures { λ r. ⌜ r ≡ (leb (place (now (a .entry)) P.state) 6 && nothingMissing (trackerIn (now (a .entry)) .at .fsm .state) (storedIn (now (a .entry)))) ⌝ }
 {
     let state = a[place::STATE];
     fits(a[place::IHW], 6, state) & (state <= 1 + 5 * a[place::TDH])
@@ -189,5 +190,5 @@ pub(crate) fn is_good(a: &[u64]) -> bool
     if !stored_good(a) {
         return false;
     }
-    present(a)
+    nothing_missing(a)
 }

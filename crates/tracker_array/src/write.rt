@@ -59,7 +59,7 @@ fn tdh(h: StoredTdh, a: &mut [u64])
     requires { ⌜ length (now a) ≡ size ⌝ }
     ensures { λ _. ⌜ now (a .exit) ≡ sets (now (a .entry)) P.tdh (tdhNumbers h) ⌝ }
 {
-    a[place::TDH] = flag(h.stored);
+    a[place::TDH] = flag(h.present);
     a[place::TDH_TRIGGER] = h.trigger as u64;
     a[place::TDH_BC] = h.bc as u64;
     a[place::TDH_ORBIT] = h.orbit as u64;
@@ -69,7 +69,7 @@ fn internal(h: InternalTdh, a: &mut [u64])
     requires { ⌜ length (now a) ≡ size ⌝ }
     ensures { λ _. ⌜ now (a .exit) ≡ sets (now (a .entry)) P.internal (internalNumbers h) ⌝ }
 {
-    a[place::INTERNAL] = flag(h.stored);
+    a[place::INTERNAL] = flag(h.present);
     a[place::INTERNAL_BC] = h.bc as u64;
     a[place::INTERNAL_ORBIT] = h.orbit as u64;
 }
@@ -126,9 +126,9 @@ pub(crate) fn stored(s: Stored, frame: Frame, a: &mut [u64])
     requires { ⌜ length (now a) ≡ size ⌝ }
     ensures { λ _. ⌜ now (a .exit) ≡ sets (now (a .entry)) P.stored (storedNumbers s frame) ⌝ }
 {
-    flag_and_number(s.ihw.stored, s.ihw.lanes as u64, place::IHW, a);
+    flag_and_number(s.ihw.present, s.ihw.lanes as u64, place::IHW, a);
     tdh(s.tdh, a);
     internal(s.internal, a);
-    flag_and_number(s.cdw.stored, s.cdw.user, place::CDW, a);
+    flag_and_number(s.cdw.present, s.cdw.user, place::CDW, a);
     flag_and_number(frame.opened, frame.start, place::OPENED, a);
 }

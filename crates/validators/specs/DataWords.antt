@@ -48,7 +48,7 @@ dataRows s seen lanes last guessed w =
     let first = firstCdw seen w in
     let laned = s .running && not first in
     when guessed (guessCode K.DataWord) id 0
-    ∷ when (s .running && (first && (last .stored && (differ (last .user) (userFields w) && differ (wordIndex w) 0)))) 81 (wordIndex w) 0
+    ∷ when (s .running && (first && (last .present && (differ (last .user) (userFields w) && differ (wordIndex w) 0)))) 81 (wordIndex w) 0
     ∷ when (not first && not (isDataId id)) 70 id 0
     ∷ laneRow (laned && inner w) 1072 true (innerLane id) lanes
     ∷ laneRow (laned && outer w) 1071 false (outerLane id) lanes

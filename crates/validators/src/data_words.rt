@@ -57,7 +57,7 @@ pub fn check(
     let mut rows = [none(); MOST_RECORDS];
     rows[0] = when(guessed, 991, id as u64, 0);
     rows[1] = when(
-        settings.running & (first & (last.stored & ((last.user != user) & (index != 0)))),
+        settings.running & (first & (last.present & ((last.user != user) & (index != 0)))),
         81,
         index as u64,
         0,

@@ -11,7 +11,7 @@ use Rattle.words.proofs.Tests.{fails, holds}
 use Rattle.packet.specs.Packet.{inRange, maxWords}
 use Rattle.tracker_array.specs.Place as P
 use Rattle.tracker_array.specs.Array.{isOn}
-use Rattle.tracker_array.specs.Read.{place, settingsIn, packetIn, storedIn, frameIn, trackerIn, settingsGood, storedGood, present, isGood}
+use Rattle.tracker_array.specs.Read.{place, settingsIn, packetIn, storedIn, frameIn, trackerIn, settingsGood, storedGood, nothingMissing, isGood}
 use Rattle.tracker_array.proofs.Laws.{bare-good}
 use borrow.Author.Needs.{needs}
 use Rattle.tracker_array.proofs.test.is_good.Statement.{statement}
@@ -28,12 +28,12 @@ first false b false d = refl
 grouped : (l : List ℕ) → isOn (place l P.accepted) ≡ true
     → ((settingsGood (settingsIn l) && (inRange (packetIn l) && leb (place l P.count) maxWords))
     && (storedGood (isOn (place l P.frames)) (storedIn l) (frameIn l)
-    && (leb (place l P.state) 6 && present (trackerIn l .at .fsm .state) (storedIn l))))
+    && (leb (place l P.state) 6 && nothingMissing (trackerIn l .at .fsm .state) (storedIn l))))
     ≡ (leb (place l P.state) 6 && isGood (trackerIn l))
 grouped l have =
     let came = settingsGood (settingsIn l) && (inRange (packetIn l) && leb (place l P.count) maxWords) in
     let kept = storedGood (isOn (place l P.frames)) (storedIn l) (frameIn l) in
-    first came kept (leb (place l P.state) 6) (present (trackerIn l .at .fsm .state) (storedIn l))
+    first came kept (leb (place l P.state) 6) (nothingMissing (trackerIn l .at .fsm .state) (storedIn l))
     ∙ simp (have, and-true, and-assoc)
 
 returns : tie.Need-returns
@@ -61,7 +61,7 @@ returns-4 c =
     let else1 : tie.Else1 = search in
     let start : tie.Start = search in
     holds (after-came-good .came-good .ensures) (c .before .before .before .if2 .left)
-    (holds (c .before .before .stored-good .ensures) (c .before .if3 .left) (c .present .ensures))
+    (holds (c .before .before .stored-good .ensures) (c .before .if3 .left) (c .nothing-missing .ensures))
     ∙ grouped (now (start .args .a)) (eq-eqb _ _ (else1 .if1 .left))
 
 pub is-good-spec : {M : Type 1} → statement M
