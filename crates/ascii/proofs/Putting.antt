@@ -10,7 +10,7 @@ use borrow.Rule.Slice.PartMut.{putMid, midOf}
 use lib.ListN.{length, getD, set, take, drop, length-append}
 use lib.Seq.{take-suc, drop-cons, append-snoc, set-at, take-length, length-take-le}
 use Rattle.io.specs.Digits.{digits, Fewest}
-use Rattle.records.proofs.Buffer.{lent-on}
+use Rattle.words.proofs.Buffer.{lent-on}
 use Rattle.ascii.specs.Text.{space, decimal, spaced, inRoom, Puts}
 use Rattle.ascii.proofs.Decimal.{spelled-decimal}
 

@@ -9,8 +9,8 @@ use native.Mathlib.Omega.{arith}
 use borrow.Author.Tests.{lt-ltb, le-ltb}
 use lib.ListN.{length, take}
 use lib.Seq.{take-append-seam}
-use Rattle.records.specs.Records.{over}
-use Rattle.records.proofs.Buffer.{over-fits}
+use Rattle.words.specs.Lists.{over}
+use Rattle.words.proofs.Buffer.{over-fits}
 use Rattle.ascii.specs.Steps.{Printed, Prints, Printer, stepIn, StepPost, Steps, done, step}
 use Rattle.ascii.proofs.Putting.{none-put}
 

@@ -8,7 +8,7 @@ use mathlib.Core.Bool.{cond}
 use mathlib.Core.List.{List, [], _∷_, _++_}
 use lib.Dec.{ltb}
 use lib.ListN.{length}
-use Rattle.records.specs.Records.{over}
+use Rattle.words.specs.Lists.{over}
 
 -- The bytes of a text.
 abbrev pub ascii : String → List ℕ

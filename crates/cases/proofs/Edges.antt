@@ -11,7 +11,7 @@ use Rattle.payload_fsm.specs.Step.{isThree}
 use Rattle.payload_fsm.specs.Settle.{three-data}
 use Rattle.payload_fsm.specs.declared.State.the-variants as S
 use Rattle.payload_fsm.proofs.Settle.{marker-settles, two-are-few}
-use Rattle.records.specs.Records.{Each}
+use Rattle.words.specs.Lists.{Each}
 use Rattle.tdh_validator.specs.Tdh.{illegal}
 use Rattle.cases.specs.Edges.{Holds, no-period, from-three, table}
 

@@ -14,7 +14,8 @@ use Rattle.packet.specs.declared.Rule.{Rule}
 use Rattle.payload_fsm.specs.declared.State.the-variants as S
 use Rattle.payload_fsm.specs.Step.{isThree}
 use Rattle.payload_fsm.specs.Settle.{DataClear, TdtDone, stateAfter}
-use Rattle.records.specs.Records.{when, Each}
+use Rattle.words.specs.Lists.{Each}
+use Rattle.records.specs.Records.{when}
 use Rattle.stored.specs.declared.InternalTdh.{InternalTdh}
 use Rattle.tdh_validator.specs.Tdh.{period, interval}
 

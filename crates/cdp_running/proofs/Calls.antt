@@ -17,7 +17,8 @@ use Rattle.payload_fsm.specs.declared.Advanced.{Advanced}
 use Rattle.records.specs.declared.Row.{Row}
 use Rattle.records.specs.declared.Written.{Written}
 use Rattle.records.specs.declared.Written.the-variants.{Records, NoRoom}
-use Rattle.records.specs.Records.{given, flat, room, over, exceed, padded, WritePost}
+use Rattle.words.specs.Lists.{over}
+use Rattle.records.specs.Records.{given, flat, room, exceed, padded, WritePost}
 use Rattle.records.proofs.Given.{given-padded}
 use Rattle.cdp_running.specs.declared.Tracker.{Tracker}
 use Rattle.cdp_running.specs.declared.WordAnswer.{WordAnswer}

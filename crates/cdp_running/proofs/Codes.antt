@@ -14,7 +14,7 @@ use Rattle.packet.specs.Settings.{countsOrbits}
 use Rattle.payload_fsm.specs.declared.ItsPayloadWord.{ItsPayloadWord}
 use Rattle.payload_fsm.specs.declared.ItsPayloadWord.the-variants as K
 use Rattle.payload_fsm.proofs.Rows.{choice}
-use Rattle.records.specs.Records.{Each}
+use Rattle.words.specs.Lists.{Each}
 use Rattle.records.proofs.Given.{given-each, each-so}
 use Rattle.tdh_validator.specs.Tdh.{illegal, orbitDifference, ranBack, interval}
 use Rattle.cdp_running.specs.declared.Tracker.{Tracker}

@@ -12,7 +12,8 @@ use Rattle.packet.proofs.Places.{position-most}
 use Rattle.payload_fsm.specs.declared.ItsPayloadWord.{ItsPayloadWord}
 use Rattle.payload_fsm.specs.declared.ItsPayloadWord.the-variants as K
 use Rattle.records.specs.declared.Row.{Row}
-use Rattle.records.specs.Records.{count, Each, mostRecords}
+use Rattle.words.specs.Lists.{Each}
+use Rattle.records.specs.Records.{count, mostRecords}
 use Rattle.records.proofs.Given.{counted, given-each}
 use Rattle.cdp_running.specs.declared.Tracker.{Tracker}
 use Rattle.cdp_running.specs.Tracker.{Good}

@@ -17,7 +17,8 @@ use Rattle.payload_fsm.specs.Kinds.{isData}
 use Rattle.payload_fsm.specs.Step.{amongData, guess}
 use Rattle.payload_fsm.proofs.States.{in-data}
 use Rattle.records.specs.declared.Row.{Row}
-use Rattle.records.specs.Records.{Each, Record, recordAt, when}
+use Rattle.words.specs.Lists.{Each}
+use Rattle.records.specs.Records.{Record, recordAt, when}
 use Rattle.records.proofs.Given.{given-each, each-so}
 use Rattle.validators.specs.DataWords.{inner, outer}
 use Rattle.validators.proofs.Lanes.{Cable, lanes-told, inner-missing, outer-missing}

@@ -18,7 +18,8 @@ use Rattle.payload_fsm.specs.declared.ItsPayloadWord.the-variants as K
 use Rattle.payload_fsm.specs.Step.{isThree}
 use Rattle.payload_fsm.proofs.States.{isInitial, three-is, start-or-three}
 use Rattle.records.specs.declared.Row.{Row}
-use Rattle.records.specs.Records.{Each, given}
+use Rattle.words.specs.Lists.{Each}
+use Rattle.records.specs.Records.{given}
 use Rattle.records.proofs.Given.{given-each, each-so}
 use Rattle.records.specs.Detail.{differ}
 use Rattle.cdp_running.specs.declared.Tracker.{Tracker}

@@ -14,7 +14,8 @@ use Rattle.payload_fsm.specs.declared.ItsPayloadWord.the-variants as K
 use Rattle.payload_fsm.specs.declared.Advanced.{Advanced}
 use Rattle.payload_fsm.specs.Step.{advanceOf, isThree}
 use Rattle.records.specs.declared.Row.{Row}
-use Rattle.records.specs.Records.{Record, given, flat, room, over, exceed}
+use Rattle.words.specs.Lists.{over}
+use Rattle.records.specs.Records.{Record, given, flat, room, exceed}
 use Rattle.stored.specs.declared.FrameTold.{FrameTold}
 use Rattle.stored.specs.Stored.{frameTold, lanesTold}
 use Rattle.validators.specs.Ihw as Ihw

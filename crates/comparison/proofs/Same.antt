@@ -13,7 +13,7 @@ use lib.ListN.{length, getD, take, drop, length-drop}
 use lib.Seq.{drop-drop, drop-length, length-take-le}
 use Rattle.words.specs.Word.{number}
 use Rattle.words.specs.LittleEndian.{numberAt}
-use Rattle.records.specs.Records.{Each}
+use Rattle.words.specs.Lists.{Each}
 use Rattle.bench_file.specs.File.{packets, words, packetPlace, packetAt, countAt, wordPlace, wordsBefore, checkOf}
 use Rattle.bench_file.proofs.Checking.{one-more}
 use Rattle.bench_file.proofs.Reading.{fits, sound, words-at-most}

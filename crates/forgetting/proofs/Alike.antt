@@ -12,7 +12,8 @@ use lib.Seq.{take-all}
 use Rattle.words.specs.Word.{wordOf}
 use Rattle.packet.specs.declared.Packet.{Packet}
 use Rattle.packet.specs.Packet.{inRange}
-use Rattle.records.specs.Records.{room, Each, mostRecords}
+use Rattle.words.specs.Lists.{Each}
+use Rattle.records.specs.Records.{room, mostRecords}
 use Rattle.cdp_running.specs.declared.Tracker.{Tracker}
 use Rattle.cdp_running.specs.declared.PacketAnswer.{PacketAnswer}
 use Rattle.cdp_running.specs.Tracker.{acceptOf, resetOf, packetCall}

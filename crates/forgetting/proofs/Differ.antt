@@ -15,7 +15,8 @@ use Rattle.packet.specs.declared.Rule.the-variants as R
 use Rattle.packet.specs.declared.Settings.{Settings}
 use Rattle.payload_fsm.specs.Kinds.{kindNumber}
 use Rattle.payload_fsm.specs.Settle.{DataClear, TdtDone, TdhClear, Marker, three-data, short-frame}
-use Rattle.records.specs.Records.{mostRecords, recordWidth, flat, given, Each}
+use Rattle.words.specs.Lists.{Each}
+use Rattle.records.specs.Records.{mostRecords, recordWidth, flat, given}
 use Rattle.cdp_running.specs.declared.Tracker.{Tracker}
 use Rattle.cdp_running.specs.declared.Told.the-variants.{Taken, Refused}
 use Rattle.cdp_running.specs.Tracker.{Good, startOf, packetCall}

@@ -6,7 +6,7 @@ use mathlib.Core.List.{List, [], _∷_, _++_}
 use Rattle.packet.specs.declared.Settings.{Settings}
 use Rattle.packet.specs.declared.Packet.{Packet}
 use Rattle.packet.specs.Packet.{inRange}
-use Rattle.records.specs.Records.{Each}
+use Rattle.words.specs.Lists.{Each}
 use Rattle.stored.specs.declared.Stored.{Stored}
 use Rattle.cdp_running.specs.declared.Tracker.{Tracker}
 use Rattle.cdp_running.specs.Tracker.{Good, startOf, acceptOf, packetCall}

@@ -12,7 +12,8 @@ use Rattle.words.specs.declared.Word.{Word}
 use Rattle.words.specs.Word.{wordOf}
 use Rattle.packet.specs.declared.Packet.{Packet}
 use Rattle.packet.specs.Packet.{inRange, maxWords}
-use Rattle.records.specs.Records.{room, Each}
+use Rattle.words.specs.Lists.{Each}
+use Rattle.records.specs.Records.{room}
 use Rattle.cdp_running.specs.declared.Tracker.{Tracker}
 use Rattle.cdp_running.specs.declared.PacketAnswer.{PacketAnswer}
 use Rattle.cdp_running.specs.Tracker.{Good, acceptOf, packetCall}

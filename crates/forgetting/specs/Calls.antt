@@ -8,7 +8,8 @@ use Rattle.words.specs.declared.Word.{Word}
 use Rattle.words.specs.Word.{wordBytes, wordOf}
 use Rattle.packet.specs.declared.Packet.{Packet}
 use Rattle.payload_fsm.specs.declared.ItsPayloadWord.{ItsPayloadWord}
-use Rattle.records.specs.Records.{flat, room, over}
+use Rattle.words.specs.Lists.{over}
+use Rattle.records.specs.Records.{flat, room}
 use Rattle.cdp_running.specs.declared.Tracker.{Tracker}
 use Rattle.cdp_running.specs.declared.Told.{Told}
 use Rattle.cdp_running.specs.Tracker.{resetOf, packetCall}

@@ -12,7 +12,8 @@ use Rattle.words.specs.Tdh.{internalTrigger}
 use Rattle.packet.specs.Packet.{inRange}
 use Rattle.payload_fsm.specs.Kinds.{isIhw, isTdh, isData}
 use Rattle.payload_fsm.specs.Settle.{Marker}
-use Rattle.records.specs.Records.{mostRecords, room, Each}
+use Rattle.words.specs.Lists.{Each}
+use Rattle.records.specs.Records.{mostRecords, room}
 use Rattle.stored.specs.Stored.{firstCdw}
 use Rattle.cdp_running.specs.declared.Tracker.{Tracker}
 use Rattle.forgetting.specs.Calls.{Call, packet, word, payload, reset, run, answers, kinds, Took, took, wordsIn}

@@ -24,7 +24,7 @@ module _ (a : List ℕ) (h : GoodArray a) where
     pub packet-refused : not r ≡ true → PacketInPlace a p 5 a
     unfolding packetCall
     packet-refused e =
-        let out = sym asked ∙ not-true r e in record { answer = simp out; numbers = simp out (h .own); good = h }
+        let out = sym asked ∙ not-true r e in record { answer = simp out; numbers = simp out (h .is .numbers); good = h }
 
     pub packet-done : {after : List ℕ} → not r ≡ false → after ≡ encodeOf (acceptOf (trackerIn a) p)
         → PacketInPlace a p 0 after
@@ -32,9 +32,9 @@ module _ (a : List ℕ) (h : GoodArray a) where
     packet-done {after} e q =
         let within = sym asked ∙ not-false r e in
         let numbers : after ≡ encodeOf (packetCall (trackerIn a) p .tracker) = simp within q in
-        record { answer = simp within; numbers = numbers; good = good-after numbers (kept-packet (trackerIn a) (h .good, h .sized) p) }
+        record { answer = simp within; numbers = numbers; good = good-after numbers (kept-packet (trackerIn a) (h .is .good, h .is .sized) p) }
 
   pub reset-done : {n : ℕ} → n ≡ 0 → ResetInPlace a (set a P.state n)
   reset-done e =
       let numbers = ap (λ (k : ℕ). set a P.state k) e ∙ resets a h in
-      record { numbers = numbers; good = good-after numbers (kept-reset (trackerIn a) (h .good, h .sized)) }
+      record { numbers = numbers; good = good-after numbers (kept-reset (trackerIn a) (h .is .good, h .is .sized)) }

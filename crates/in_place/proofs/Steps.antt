@@ -19,7 +19,8 @@ use Rattle.payload_fsm.specs.declared.Advanced.{Advanced}
 use Rattle.records.specs.declared.Row.{Row}
 use Rattle.records.specs.declared.Written.{Written}
 use Rattle.records.specs.declared.Written.the-variants.{Records, NoRoom}
-use Rattle.records.specs.Records.{given, flat, room, over, exceed, padded, silent, WritePost}
+use Rattle.words.specs.Lists.{over}
+use Rattle.records.specs.Records.{given, flat, room, exceed, padded, silent, WritePost}
 use Rattle.records.proofs.Given.{given-padded, silent-padded, unheard}
 use Rattle.stored.specs.declared.Frame.{Frame}
 use Rattle.stored.specs.declared.FrameTold.{FrameTold}
@@ -149,7 +150,7 @@ in-place {a} {bytes} {buffer} {r} {after} {buffer-after} h w e =
       answer = ap (λ (x : WordAnswer). x .told) (w .answer);
       numbers = numbers;
       buffer-is = w .buffer-is;
-      good = good-after numbers (kept-word (trackerIn a) (h .good, h .sized) bytes (room buffer));
+      good = good-after numbers (kept-word (trackerIn a) (h .is .good, h .is .sized) bytes (room buffer));
     }
 
 -- The word call where the word is ten bytes, a packet was accepted and takes one more.
@@ -165,8 +166,8 @@ module _ (a bytes buffer : List ℕ) (h : GoodArray a) (ten : length bytes ≡ 1
       → WordPost cur bytes buffer (takenAnswer cur (takenAs cur word) word n) buffer-after
   took s =
       let b = eq-eqb _ _ ten in
-      word-taken cur bytes buffer (h .good) b have low
-      (of-word cur bytes buffer (h .good) b have low (s .wrote)) refl refl
+      word-taken cur bytes buffer (h .is .good) b have low
+      (of-word cur bytes buffer (h .is .good) b have low (s .wrote)) refl refl
 
   pub took-numbers : {n : ℕ} {after buffer-after : List ℕ} → StepInPlace a word buffer (Records n) after buffer-after
       → after
@@ -177,7 +178,7 @@ module _ (a bytes buffer : List ℕ) (h : GoodArray a) (ten : length bytes ≡ 1
       → WordPost cur bytes buffer (wordAnswer cur (refused 4)) buffer-after
   denied s =
       let b = eq-eqb _ _ ten in
-      word-4 cur bytes buffer (h .good) b have low (of-word cur bytes buffer (h .good) b have low (s .wrote)) refl refl
+      word-4 cur bytes buffer (h .is .good) b have low (of-word cur bytes buffer (h .is .good) b have low (s .wrote)) refl refl
 
   pub denied-numbers : {after buffer-after : List ℕ} → StepInPlace a word buffer NoRoom after buffer-after → after ≡ a
   denied-numbers s = let e = no-room a word (s .wrote) refl in simp e at (s .numbers)
@@ -191,7 +192,7 @@ module _ (a bytes buffer : List ℕ) (h : GoodArray a) (ten : length bytes ≡ 1
 
   pub word-denied : {after buffer-after : List ℕ} → StepInPlace a word buffer NoRoom after buffer-after
       → WordInPlace a bytes buffer (T.Refused 4) after buffer-after
-  word-denied s = in-place h (denied s) (denied-numbers s ∙ h .own)
+  word-denied s = in-place h (denied s) (denied-numbers s ∙ h .is .numbers)
 
   -- A quiet data word.
   pub word-quiet : ((i : ℕ) → getD bytes i 0 < 256) → {to : ℕ} {after : List ℕ} {told : Told}
@@ -212,7 +213,7 @@ module _ (a bytes buffer : List ℕ) (h : GoodArray a) (ten : length bytes ≡ 1
         answer = e ∙ sym (ap (λ (o : Outcome). wordAnswer cur o .told) call);
         numbers = numbers;
         buffer-is = sym (ap (λ (o : Outcome). over (flat (recordsIn o)) buffer) call);
-        good = good-after numbers (kept-word cur (h .good, h .sized) bytes (room buffer));
+        good = good-after numbers (kept-word cur (h .is .good, h .is .sized) bytes (room buffer));
       }
 
   -- Any other word: the numbers are still as they were.
@@ -232,13 +233,13 @@ module _ (a bytes buffer : List ℕ) (h : GoodArray a) (ten : length bytes ≡ 1
 -- Refusals before that.
 module _ (a bytes buffer : List ℕ) (h : GoodArray a) where
   pub word-refused-1 : (length bytes ≡ 10 → ⊥) → WordInPlace a bytes buffer (T.Refused 1) a buffer
-  word-refused-1 e = in-place h (word-1 (trackerIn a) bytes buffer (h .good) (ne-eqb _ _ e) refl) (h .own)
+  word-refused-1 e = in-place h (word-1 (trackerIn a) bytes buffer (h .is .good) (ne-eqb _ _ e) refl) (h .is .numbers)
 
   pub word-refused-2 : length bytes ≡ 10 → isOn (place a P.accepted) ≡ false
       → WordInPlace a bytes buffer (T.Refused 2) a buffer
-  word-refused-2 ten e = in-place h (word-2 (trackerIn a) bytes buffer (h .good) (eq-eqb _ _ ten) e refl) (h .own)
+  word-refused-2 ten e = in-place h (word-2 (trackerIn a) bytes buffer (h .is .good) (eq-eqb _ _ ten) e refl) (h .is .numbers)
 
   pub word-refused-3 : length bytes ≡ 10 → isOn (place a P.accepted) ≡ true → maxWords ≤ place a P.count
       → WordInPlace a bytes buffer (T.Refused 3) a buffer
   word-refused-3 ten have e =
-      in-place h (word-3 (trackerIn a) bytes buffer (h .good) (eq-eqb _ _ ten) have e refl) (h .own)
+      in-place h (word-3 (trackerIn a) bytes buffer (h .is .good) (eq-eqb _ _ ten) have e refl) (h .is .numbers)

@@ -141,7 +141,7 @@ pub good-next : (l : List ℕ) (a : Advanced) (w : Word) → GoodArray l
     ≡ encodeOf (nextTracker (trackerIn l) a w)
 good-next l a w h =
     ap (λ (x : List ℕ). storesOf (a .word) w (positionNow (trackerIn l))
-    (sets x P.reached (stateNumber (a .fsm .state) ∷ (place l P.count + 1) ∷ []))) (h .own)
+    (sets x P.reached (stateNumber (a .fsm .state) ∷ (place l P.count + 1) ∷ []))) (h .is .numbers)
     ∙ stores-next (trackerIn l) a w
 
 -- The same, with what the code stored on the way.
@@ -159,14 +159,14 @@ pub accepts : (l : List ℕ) (p : Packet) → GoodArray l
     (acceptOf (trackerIn l) p)
 unfolding encodeOf
 accepts l p h =
-    ap (λ (x : List ℕ). set (set (sets (set x P.accepted 1) P.packet (packetNumbers p)) P.count 0) P.seen 0) (h .own)
+    ap (λ (x : List ℕ). set (set (sets (set x P.accepted 1) P.packet (packetNumbers p)) P.count 0) P.seen 0) (h .is .numbers)
 
 pub resets : (l : List ℕ) → GoodArray l → set l P.state 0 ≡ encodeOf (resetOf (trackerIn l))
 unfolding encodeOf
-resets l h = ap (λ (x : List ℕ). set x P.state 0) (h .own)
+resets l h = ap (λ (x : List ℕ). set x P.state 0) (h .is .numbers)
 
 -- So many quiet data words.
 pub counts : (l : List ℕ) (n : ℕ) → GoodArray l
     → set (set l P.count (place l P.count + n)) P.seen 1 ≡ encodeOf (quietNext (trackerIn l) n)
 unfolding encodeOf
-counts l n h = ap (λ (x : List ℕ). set (set x P.count (place l P.count + n)) P.seen 1) (h .own)
+counts l n h = ap (λ (x : List ℕ). set (set x P.count (place l P.count + n)) P.seen 1) (h .is .numbers)

@@ -14,7 +14,7 @@ use Rattle.words.specs.Word.{wordOf}
 use Rattle.packet.specs.Packet.{maxWords}
 use Rattle.records.specs.Records.{recordWidth}
 use Rattle.records.specs.declared.Written.the-variants.{Records, NoRoom}
-use Rattle.records.proofs.Buffer.{mid-tail}
+use Rattle.words.proofs.Buffer.{mid-tail}
 use Rattle.cdp_running.specs.declared.Tracker.{Tracker}
 use Rattle.cdp_running.specs.declared.WordAnswer.{WordAnswer}
 use Rattle.cdp_running.specs.Next.{nextTracker}
@@ -60,7 +60,7 @@ module _ {a₀ b out₀ : List ℕ} where
 
   pub walk-start : GoodArray a₀ → isOn (place a₀ P.accepted) ≡ true → length b % 10 ≡ 0 → Walk a₀ b out₀ a₀ out₀ 0 0
   walk-start h have whole =
-      record { going = Loop.begins (record { good = h .good; accepted = have; whole = whole; within = omega arith; between = refl }); good = h }
+      record { going = Loop.begins (record { good = h .is .good; accepted = have; whole = whole; within = omega arith; between = refl }); good = h }
 
   -- What a payload call tells, from what it comes to.
   told-it : {a out : List ℕ} {words records n : ℕ} {r : PayloadTold}
@@ -72,7 +72,7 @@ module _ {a₀ b out₀ : List ℕ} where
         answer =
             e ∙ ap (λ (x : PayloadAnswer). record { words = x .words; records = x .records; refusal = x .refusal })
             (p .answer);
-        numbers = h .own ∙ ap (λ (x : PayloadAnswer). encodeOf (x .tracker)) (p .answer);
+        numbers = h .is .numbers ∙ ap (λ (x : PayloadAnswer). encodeOf (x .tracker)) (p .answer);
         buffer-is = p .buffer-is;
         good = h;
       }
@@ -80,11 +80,11 @@ module _ {a₀ b out₀ : List ℕ} where
   pub payload-1 : {r : PayloadTold} → GoodArray a₀ → (length b % 10 ≡ 0 → ⊥)
       → r ≡ record { words = 0; records = 0; refusal = 1 }
       → PayloadInPlace a₀ b out₀ r a₀ out₀
-  payload-1 h e p = told-it p h (refused-1 (h .good) e)
+  payload-1 h e p = told-it p h (refused-1 (h .is .good) e)
 
   pub payload-2 : {r : PayloadTold} → GoodArray a₀ → length b % 10 ≡ 0 → isOn (place a₀ P.accepted) ≡ false → r
       ≡ record { words = 0; records = 0; refusal = 2 } → PayloadInPlace a₀ b out₀ r a₀ out₀
-  payload-2 h whole e p = told-it p h (refused-2 (h .good) whole e)
+  payload-2 h whole e p = told-it p h (refused-2 (h .is .good) whole e)
 
   module _ {a out : List ℕ} {at used : ℕ} (k : Walk a₀ b out₀ a out at used) where
     pub payload-0 : {r : PayloadTold} → length
@@ -114,7 +114,7 @@ module _ {a₀ b out₀ : List ℕ} where
             subst (λ (x : List ℕ). Walk a₀ b out₀ x out to used) (sym (numbers-are 0 e))
             (subst (λ (j : ℕ). Walk a₀ b out₀ a out j used) (sym same) k)
         by (suc n) e =
-            let s = k .good .sized in
+            let s = k .good .is .sized in
             let r = k .going .ready in
             let q = p .quiet in
             let room : u .at .count + suc n ≤ maxWords = omega (arith, q .room) in
@@ -124,7 +124,7 @@ module _ {a₀ b out₀ : List ℕ} where
             ∙ counts a (suc n) (k .good)) (record { period = s .period; orbit = s .orbit; internal-orbit = s .internal-orbit })
             (further-silent (k .going) (suc n)
             (record {
-              good = good-quiet u (suc n) (k .good .good) (r .accepted) room;
+              good = good-quiet u (suc n) (k .good .is .good) (r .accepted) room;
               accepted = r .accepted;
               whole = r .whole;
               within = fits;
@@ -155,7 +155,7 @@ module _ {a₀ b out₀ : List ℕ} where
           → PayloadInPlace a₀ b out₀ r a out
       payload-3 h p =
           let w : WordPost (trackerIn a) bytes tail (wordAnswer (trackerIn a) (refused 3)) tail =
-          word-3 (trackerIn a) bytes tail (k .good .good) (eq-eqb _ _ ten) (k .going .ready .accepted) h refl in
+          word-3 (trackerIn a) bytes tail (k .good .is .good) (eq-eqb _ _ ten) (k .going .ready .accepted) h refl in
           told-it p (k .good)
           (subst (λ (l : List ℕ). PayloadPost (trackerIn a₀) b out₀
           (record { tracker = trackerIn a; words = at / 10; records = used / recordWidth; refusal = 3 }) l)
@@ -170,7 +170,7 @@ module _ {a₀ b out₀ : List ℕ} where
             let w = wordOf bytes in
             at-tracker (nextTracker u (takenAs u w) w)
             (took-numbers a bytes tail (k .good) ten (k .going .ready .accepted) low s)
-            (sized-next u w (k .good .sized))
+            (sized-next u w (k .good .is .sized))
             (Loop.next (k .going) lt (on-part (took a bytes tail (k .good) ten (k .going .ready .accepted) low s)) kept
             refl)
 

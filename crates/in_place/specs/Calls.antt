@@ -9,7 +9,8 @@ use lib.ListN.{length}
 use Rattle.words.specs.declared.Word.{Word}
 use Rattle.packet.specs.declared.Packet.{Packet}
 use Rattle.records.specs.declared.Written.{Written}
-use Rattle.records.specs.Records.{padded, flat, room, over, exceed, WritePost}
+use Rattle.words.specs.Lists.{over}
+use Rattle.records.specs.Records.{padded, flat, room, exceed, WritePost}
 use Rattle.cdp_running.specs.declared.Told.{Told}
 use Rattle.cdp_running.specs.Tracker.{resetOf, packetCall}
 use Rattle.cdp_running.specs.Next.{nextTracker}

@@ -9,7 +9,8 @@ use borrow.Author.Tests.{eqb-true, eq-eqb, ne-eqb, not-true, not-false}
 use Rattle.words.proofs.Tests.{tests}
 use Rattle.packet.specs.declared.Rule.{Rule}
 use Rattle.packet.specs.declared.Packet.{Packet}
-use Rattle.records.specs.Records.{flat, room, over}
+use Rattle.words.specs.Lists.{over}
+use Rattle.records.specs.Records.{flat, room}
 use Rattle.cdp_running.specs.declared.Tracker.{Tracker}
 use Rattle.cdp_running.specs.declared.Told.{Told}
 use Rattle.cdp_running.specs.declared.Told.the-variants.{Refused}

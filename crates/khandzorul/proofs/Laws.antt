@@ -10,7 +10,8 @@ use lib.ListN.{length, take}
 use borrow.Author.Tests.{eq-eqb}
 use Rattle.packet.specs.declared.Packet.{Packet}
 use Rattle.packet.specs.Packet.{inRange}
-use Rattle.records.specs.Records.{Record, flat, room, over}
+use Rattle.words.specs.Lists.{over}
+use Rattle.records.specs.Records.{Record, flat, room}
 use Rattle.cdp_running.specs.declared.Tracker.{Tracker}
 use Rattle.cdp_running.specs.declared.Told.the-variants.{Refused}
 use Rattle.cdp_running.specs.Tracker.{startOf, resetOf, packetCall}

@@ -9,7 +9,8 @@ use lib.Dec.{leb, eqb}
 use lib.ListN.{length}
 use Rattle.packet.specs.declared.Settings.{Settings}
 use Rattle.packet.specs.declared.Packet.{Packet}
-use Rattle.records.specs.Records.{flat, room, over}
+use Rattle.words.specs.Lists.{over}
+use Rattle.records.specs.Records.{flat, room}
 use Rattle.cdp_running.specs.declared.Tracker.{Tracker}
 use Rattle.cdp_running.specs.declared.Told.the-variants.{Refused}
 use Rattle.cdp_running.specs.Tracker.{startOf, resetOf, packetCall}

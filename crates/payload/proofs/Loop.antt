@@ -10,9 +10,10 @@ use borrow.Author.Tests.{eq-eqb, ne-eqb}
 use borrow.Rule.Slice.PartMut.{putMid, midOf, same-len-mid}
 use lib.ListN.{length, take, drop, length-append, length-drop}
 use lib.Seq.{drop-drop}
-use Rattle.records.specs.Records.{Record, flat, room, over, recordWidth}
+use Rattle.words.specs.Lists.{over}
+use Rattle.records.specs.Records.{Record, flat, room, recordWidth}
 use Rattle.records.proofs.Given.{flat-append, length-flat}
-use Rattle.records.proofs.Buffer.{mid-tail, lent-on, over-fits}
+use Rattle.words.proofs.Buffer.{mid-tail, lent-on, over-fits}
 use Rattle.cdp_running.specs.declared.Tracker.{Tracker}
 use Rattle.cdp_running.specs.declared.Taken.{Taken}
 use Rattle.cdp_running.specs.declared.Told.{Told}

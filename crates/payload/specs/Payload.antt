@@ -8,7 +8,8 @@ use mathlib.Core.List.{List, [], _∷_, _++_}
 use lib.Dec.{eqb}
 use lib.ListN.{length, take, drop}
 use Rattle.words.specs.Word.{wordBytes}
-use Rattle.records.specs.Records.{Record, flat, room, over}
+use Rattle.words.specs.Lists.{over}
+use Rattle.records.specs.Records.{Record, flat, room}
 use Rattle.cdp_running.specs.declared.Tracker.{Tracker}
 use Rattle.cdp_running.specs.Tracker.{Good}
 use Rattle.cdp_running.specs.Word.{TakenWord, Outcome, taken, refused, wordCall}

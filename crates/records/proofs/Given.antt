@@ -10,7 +10,8 @@ use native.Mathlib.Omega.{arith}
 use lib.ListN.{length, getD, take, replicate, length-append}
 use lib.Seq.{take-suc}
 use Rattle.records.specs.declared.Row.{Row}
-use Rattle.records.specs.Records.{Record, recordAt, none, numbers, flat, given, count, anyOn, silent, recordWidth, mostRecords, padded, Each}
+use Rattle.words.specs.Lists.{Each}
+use Rattle.records.specs.Records.{Record, recordAt, none, numbers, flat, given, count, anyOn, silent, recordWidth, mostRecords, padded}
 
 -- One row's records.
 abbrev pub one : ℕ → Row → List Record

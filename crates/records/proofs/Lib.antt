@@ -1,4 +1,3 @@
 pub mod Given
-pub mod Buffer
 pub mod Writing
 pub mod Unique

@@ -11,9 +11,10 @@ use lib.ListN.{length, getD, take, drop, length-append, length-drop, take-append
 use lib.Seq.{take-all}
 use Rattle.records.specs.declared.Row.{Row}
 use Rattle.records.specs.declared.Written.the-variants.{Records, NoRoom}
-use Rattle.records.specs.Records.{Record, recordAt, none, numbers, flat, given, count, recordWidth, room, over, WritePost}
+use Rattle.words.specs.Lists.{over}
+use Rattle.records.specs.Records.{Record, recordAt, none, numbers, flat, given, count, recordWidth, room, WritePost}
 use Rattle.records.proofs.Given.{counted, given-append, given-more, flat-append, length-flat}
-use Rattle.records.proofs.Buffer.{mid-tail, lent-on, length-over}
+use Rattle.words.proofs.Buffer.{mid-tail, lent-on, length-over}
 
 -- After i rows: the records of those stand at the buffer's front, and all of them have room.
 pub record Going (position : ℕ) (rows : List Row) (out₀ out : List ℕ) (used i : ℕ) : Type 0 where

@@ -5,7 +5,8 @@ use mathlib.Core.Path.{_≡_}
 use mathlib.Core.Bool.{Bool, false, cond, not, _||_}
 use mathlib.Core.List.{List, [], _∷_, _++_}
 use lib.Dec.{ltb}
-use lib.ListN.{length, drop, replicate}
+use lib.ListN.{length, replicate}
+use Rattle.words.specs.Lists.{over}
 use Rattle.records.specs.declared.Row.{Row}
 use Rattle.records.specs.declared.Written.{Written}
 use Rattle.records.specs.declared.Written.the-variants.{Records, NoRoom}
@@ -67,10 +68,6 @@ silent rows = not (anyOn rows)
 abbrev pub room : List ℕ → ℕ
 room buffer = length buffer / recordWidth
 
--- What stands in a buffer after numbers were written at its front: "the rest of the buffer stays".
-abbrev pub over : List ℕ → List ℕ → List ℕ
-over written buffer = written ++ drop (length written) buffer
-
 -- 4, "this word's records exceed the buffer's room": nothing is written. Else the records stand at its front.
 abbrev pub exceed : List Record → ℕ → Bool
 exceed records places = ltb places (length records)
@@ -89,8 +86,3 @@ pub record WritePost (position : ℕ) (rows : List Row) (buffer : List ℕ) (r :
   pub number : refusalOf r ≡ cond (exceed (given position rows) (room buffer)) 4 0
   pub value : writtenOf r ≡ cond (exceed (given position rows) (room buffer)) 0 (length (given position rows))
   pub buffer-is : after ≡ cond (exceed (given position rows) (room buffer)) buffer (over (flat (given position rows)) buffer)
-
--- Something that holds of each of a list.
-abbrev pub Each : {A : Type 0} → (A → Type 0) → List A → Type 0
-Each P [] = Unit
-Each P (x ∷ xs) = P x × Each P xs

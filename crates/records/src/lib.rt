@@ -4,7 +4,8 @@ ghost use mathlib.Core.Path.{_≡_};
 ghost use mathlib.Core.Bool.{cond};
 ghost use Prim.Native.Nat.{_+_, _≤_};
 ghost use lib.ListN.{length};
-ghost use Rattle.records.specs.Records.{recordWidth, when, none, silent, count, recordAt, numbers, over, WritePost};
+ghost use Rattle.words.specs.Lists.{over};
+ghost use Rattle.records.specs.Records.{recordWidth, when, none, silent, count, recordAt, numbers, WritePost};
 
 // Numbers of a record.
 pub const RECORD_WIDTH: usize = 4;

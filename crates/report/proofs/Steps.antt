@@ -9,9 +9,10 @@ use borrow.Author.Tests.{eqb-true}
 use borrow.Rule.Slice.PartMut.{midOf}
 use lib.Dec.{eqb}
 use lib.ListN.{length}
-use Rattle.records.specs.Records.{flat, room, over, mostRecords, recordWidth}
+use Rattle.words.specs.Lists.{over}
+use Rattle.records.specs.Records.{flat, room, mostRecords, recordWidth}
 use Rattle.records.proofs.Given.{length-flat}
-use Rattle.records.proofs.Buffer.{over-fits}
+use Rattle.words.proofs.Buffer.{over-fits}
 use Rattle.cdp_running.specs.declared.Tracker.{Tracker}
 use Rattle.cdp_running.specs.declared.WordAnswer.{WordAnswer}
 use Rattle.cdp_running.specs.Tracker.{Good, startOf}

@@ -9,7 +9,7 @@ use mathlib.Core.Logic.{_⊎_, inl, inr}
 use native.Mathlib.Omega.{arith}
 use borrow.Author.Tests.{eqb-true, eqb-false}
 use lib.Dec.{eqb}
-use Rattle.records.specs.Records.{Each}
+use Rattle.words.specs.Lists.{Each}
 use Rattle.tdh_validator.specs.Tdh.{Legal, crossings, IsPeriod, period}
 use Rattle.tdh_validator.specs.Chain.{Chain, intervals, lastOf}
 use Rattle.tdh_validator.proofs.Period.{period-is, period-only}

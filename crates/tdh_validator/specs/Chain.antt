@@ -3,7 +3,7 @@
 use Prim.Native.Nat.{ℕ, _+_, _≤_}
 use mathlib.Core.List.{List, [], _∷_}
 use lib.ListN.{length}
-use Rattle.records.specs.Records.{Each}
+use Rattle.words.specs.Lists.{Each}
 use Rattle.tdh_validator.specs.Tdh.{Legal, period}
 
 -- "any chain of 1 to 4,096 BCs", legal ones: its first, and the rest after it.

@@ -122,17 +122,22 @@ tracker-fits a e =
     at true none two = omega (arith, eqb-true (place a P.format) 0 none)
     at false some two = omega (arith, two refl)
 
+-- The tests decide which numbers are a tracker's: those that pass them are those of the tracker that they are read as, and no others are a tracker's.
+pub tests-decide : (a : List ℕ) → (isTracker a ≡ true) ↔ IsTracker a (trackerIn a)
+tests-decide a = (
+  λ e. let (good, sized) = tracker-good a e in record { numbers = written a e; good = good; sized = sized },
+  λ i. ap isTracker (i .numbers) ∙ tracker-back (trackerIn a) (i .good) (i .sized),
+)
+
 -- The invariant of an array is the test, in both directions; a tracker's own numbers meet it.
 pub good-array : (a : List ℕ) → isTracker a ≡ true → GoodArray a
-good-array a e =
-    let (good, sized) = tracker-good a e in
-    record { fits = tracker-fits a e; own = written a e; good = good; sized = sized }
+good-array a e = record { is = tests-decide a .0 e; fits = tracker-fits a e }
 
 pub good-again : (t : Tracker) → Good t → Sized t → GoodArray (encodeOf t)
 good-again t g s = good-array (encodeOf t) (tracker-back t g s)
 
 pub array-good : (a : List ℕ) → GoodArray a → isTracker a ≡ true
-array-good a h = ap isTracker (h .own) ∙ tracker-back (trackerIn a) (h .good) (h .sized)
+array-good a h = tests-decide a .1 (h .is)
 
 -- Numbers that passed the test of form.
 pub in-form : (a : List ℕ) → length a ≡ size → inForm a ≡ true → InForm a
@@ -167,13 +172,6 @@ bare-good a f off = tests-agree _ _ there back
         let own = written a (tracker-is a .1 (f .long, (f .form, (leb-true _ _ low, good)))) in
         let bare = tests-good (trackerIn a) good .0 .fresh off in
         and-is _ _ .1 (both (settingsGood (settingsIn a)) _ good .0, ap (zerosFrom (P.unused - P.packet) P.packet) (own ∙ ap encodeOf bare))
-
--- The tests decide which numbers are a tracker's: those that pass them are those of the tracker that they are read as, and no others are a tracker's.
-pub tests-decide : (a : List ℕ) → (isTracker a ≡ true) ↔ IsTracker a (trackerIn a)
-tests-decide a = (
-  λ e. let (good, sized) = tracker-good a e in record { numbers = written a e; good = good; sized = sized },
-  λ i. ap isTracker (i .numbers) ∙ tracker-back (trackerIn a) (i .good) (i .sized),
-)
 
 pub read-as : (a : List ℕ) (t : Tracker) → IsTracker a t → trackerIn a ≡ t
 read-as a t i = ap trackerIn (i .numbers) ∙ reads-back t

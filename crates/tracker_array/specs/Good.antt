@@ -5,8 +5,7 @@ use mathlib.Core.Path.{_≡_}
 use mathlib.Core.Bool.{true}
 use mathlib.Core.List.{List}
 use lib.ListN.{length}
-use Rattle.cdp_running.specs.Tracker.{Good}
-use Rattle.tracker_array.specs.Array.{size, encodeOf, Sized}
+use Rattle.tracker_array.specs.Array.{size, IsTracker}
 use Rattle.tracker_array.specs.Place as P
 use Rattle.tracker_array.specs.Read.{place, trackerIn, inForm}
 
@@ -40,9 +39,7 @@ pub record Fits (a : List ℕ) : Type 0 where
   pub internal-bc : place a P.internalBc < 2 ^ 16
   pub internal-orbit : place a P.internalOrbit < 2 ^ 32
 
--- The numbers are those of the tracker that they are read as, and that tracker meets its own invariant.
+-- The numbers are those of the tracker that they are read as. That they fit follows (`tracker-fits`), and is asked for wherever one is read.
 pub record GoodArray (a : List ℕ) : Type 0 where
+  pub is : IsTracker a (trackerIn a)
   pub fits : Fits a
-  pub own : a ≡ encodeOf (trackerIn a)
-  pub good : Good (trackerIn a)
-  pub sized : Sized (trackerIn a)

@@ -17,7 +17,8 @@ use Rattle.words.proofs.Tests.{both}
 use Rattle.data_ids.specs.DataIds.{isDataId, innerLane, outerLane, inputNumber, laneNumber, isInner, laneOf}
 use Rattle.data_ids.proofs.Table.{same-at-ids}
 use Rattle.packet.specs.declared.Settings.{Settings}
-use Rattle.records.specs.Records.{Record, Each, given, recordAt, when}
+use Rattle.words.specs.Lists.{Each}
+use Rattle.records.specs.Records.{Record, given, recordAt, when}
 use Rattle.stored.specs.declared.StoredCdw.{StoredCdw}
 use Rattle.stored.specs.Stored.{firstCdw}
 use Rattle.validators.specs.DataWords.{inner, outer, laneCode, laneRow, dataRows}

@@ -5,3 +5,4 @@ pub mod Unique
 pub mod Worst
 pub mod Tests
 pub mod LittleEndian
+pub mod Buffer

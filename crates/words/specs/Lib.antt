@@ -1,4 +1,4 @@
--- What the words are: read Word first, then the words in any order.
+-- What the words are: read Word first, then the words in any order. Lists is said of buffers and lists everywhere.
 pub mod Word
 pub mod LittleEndian
 pub mod Tdh
@@ -8,3 +8,4 @@ pub mod Ddw
 pub mod Cdw
 pub mod Lanes
 pub mod LaneStatus
+pub mod Lists

@@ -17,7 +17,7 @@ returns c =
       n = 0;
       to-is = omega arith;
       within = start .pre .1 .0;
-      room = omega (arith, start .pre .0 .good .count);
+      room = omega (arith, start .pre .0 .is .good .count);
       among = λ some. absurd (some refl);
       each = λ i h. absurd (omega arith);
     }
@@ -35,7 +35,7 @@ returns-2 c =
       n = h .n;
       to-is = h .to-is;
       within = omega (arith, h .within, after-least .least .ensures);
-      room = omega (arith, h .to-is, h .within, after-least .least .ensures, start .pre .0 .good .count);
+      room = omega (arith, h .to-is, h .within, after-least .least .ensures, start .pre .0 .is .good .count);
       among =
           λ some. sym (after-among-data .among-data .ensures)
           ∙ not-false (after-among-data .among-data .result) (else1 .if1 .left);

@@ -10,17 +10,17 @@ use Rattle.in_place.proofs.step.position.Statement.{statement}
 use Rattle.in_place.proofs.step.position.Tie as tie
 
 add-first : tie.Need-add-first
-add-first c = omega (arith, position-low (packetIn (now (c .before .args .a))) (c .before .pre .good .packet))
+add-first c = omega (arith, position-low (packetIn (now (c .before .args .a))) (c .before .pre .is .good .packet))
 
 add-result : tie.Need-add-result
 add-result c =
     let start : tie.Start = search in
-    omega (arith, position-low (packetIn (now (start .args .a))) (start .pre .good .packet), start .pre .good .count)
+    omega (arith, position-low (packetIn (now (start .args .a))) (start .pre .is .good .packet), start .pre .is .good .count)
 
 add-result-2 : tie.Need-add-result-2
 add-result-2 c =
     let start : tie.Start = search in
-    omega (arith, position-low (packetIn (now (start .args .a))) (start .pre .good .packet), start .pre .good .count)
+    omega (arith, position-low (packetIn (now (start .args .a))) (start .pre .is .good .packet), start .pre .is .good .count)
 
 returns : tie.Need-returns
 returns c = simp (eq-eqb _ _ (c .before .if1 .taken))

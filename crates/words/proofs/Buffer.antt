@@ -8,7 +8,7 @@ use native.Mathlib.Omega.{arith}
 use borrow.Rule.Slice.PartMut.{putMid, midOf}
 use lib.ListN.{length, take, drop, length-append, length-drop, drop-of-length-le}
 use lib.Seq.{take-all, take-append-seam, drop-append-seam, drop-drop}
-use Rattle.records.specs.Records.{over}
+use Rattle.words.specs.Lists.{over}
 
 -- The part `&s[a..]` of a list, and the whole with another tail in its place.
 pub mid-tail : (a : ℕ) (d : List ℕ) → midOf a (length d - a) d ≡ drop a d
