@@ -23,12 +23,7 @@ pub(crate) fn position(a: &[u64]) -> u64
     requires { ⌜ GoodArray (now a) ⌝ }
     ensures { λ r. ⌜ r ≡ positionNow (trackerIn (now (a .entry))) ⌝ }
 {
-    let first = a[place::POSITION] + 64;
-    if a[place::FORMAT] == 0 {
-        first + a[place::COUNT] * 16
-    } else {
-        first + a[place::COUNT] * 10
-    }
+    a[place::POSITION] + 64 + a[place::COUNT] * packet::stride(a[place::FORMAT])
 }
 
 // What a word is taken as.

@@ -25,9 +25,13 @@ inRange p =
 abbrev pub maxWords : ℕ
 maxWords = 4096
 
--- "Word n, from 1, stands at position + 64 + (n - 1) times 16 in format 0, times 10 in format 2": the next word, after so many.
+-- ".. times 16 in format 0, times 10 in format 2": from one word to the next.
+abbrev pub stride : ℕ → ℕ
+stride format = cond (eqb format 0) 16 10
+
+-- "Word n, from 1, stands at position + 64 + (n - 1) times" that: the next word, after so many.
 abbrev pub positionOf : Packet → ℕ → ℕ
-positionOf p taken = p .position + 64 + taken * cond (eqb (p .format) 0) 16 10
+positionOf p taken = p .position + 64 + taken * stride (p .format)
 
 -- No position is above that of the last word of a packet at the last position.
 abbrev pub mostPosition : ℕ

@@ -2,7 +2,8 @@
 // and the numbers of the refusals too. Document 01, "Calls and settings" and "Bench file".
 ghost use mathlib.Core.Path.{_≡_};
 ghost use Rattle.packet.specs.Settings.{countsOrbits, settingsOf};
-ghost use Rattle.packet.specs.Packet.{inRange, positionOf, GoodPlace};
+ghost use Prim.Native.Nat.{_≤_};
+ghost use Rattle.packet.specs.Packet.{inRange, stride, positionOf, GoodPlace};
 
 // Words that a packet takes.
 pub const MAX_WORDS: u16 = 4096;
@@ -109,15 +110,18 @@ pub fn in_range(packet: Packet) -> bool
     )
 }
 
+// From one word to the next.
+pub fn stride(format: u64) -> u64
+    ensures { λ r. ⌜ r ≡ stride format ⌝ }
+    ensures { λ r. ⌜ r ≤ 16 ⌝ }
+{
+    if format == 0 { 16 } else { 10 }
+}
+
 // Where the word after so many stands.
 pub fn position(packet: Packet, taken: u16) -> u64
     requires { ⌜ GoodPlace packet taken ⌝ }
     ensures { λ r. ⌜ r ≡ positionOf packet taken ⌝ }
 {
-    let first = packet.position + 64;
-    if packet.format == 0 {
-        first + (taken as u64) * 16
-    } else {
-        first + (taken as u64) * 10
-    }
+    packet.position + 64 + (taken as u64) * stride(packet.format as u64)
 }

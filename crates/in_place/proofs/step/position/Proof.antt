@@ -1,34 +1,40 @@
 -- `position` meets its contract: the packet's position is at most 2^62, and a packet takes 4,096 words.
 -- Assumes nothing.
+use Prim.Native.Nat.{_*_, _≤_}
 use denote.Ref.{now}
+use native.Mathlib.Nat.{mul-le-mul-left}
 use native.Mathlib.Omega.{arith}
-use borrow.Author.Tests.{eq-eqb, ne-eqb}
 use Rattle.packet.proofs.Places.{position-low}
-use Rattle.tracker_array.specs.Read.{packetIn}
+use Rattle.tracker_array.specs.Place as P
+use Rattle.tracker_array.specs.Read.{place, packetIn}
 use borrow.Author.Needs.{needs}
 use Rattle.in_place.proofs.step.position.Statement.{statement}
 use Rattle.in_place.proofs.step.position.Tie as tie
 
-add-first : tie.Need-add-first
-add-first c = omega (arith, position-low (packetIn (now (c .before .args .a))) (c .before .pre .is .good .packet))
+-- Words stand at most 16 bytes apart.
+low : (c : tie.After-stride) → let start : tie.Start = search in let count = place (now (start .args .a)) P.count in
+    count * c .stride .result ≤ count * 16
+low c = let start : tie.Start = search in mul-le-mul-left (place (now (start .args .a)) P.count) (c .stride .ensures .1)
 
 add-result : tie.Need-add-result
 add-result c =
     let start : tie.Start = search in
-    omega (arith, position-low (packetIn (now (start .args .a))) (start .pre .is .good .packet), start .pre .is .good .count)
+    omega (arith, position-low (packetIn (now (start .args .a))) (start .pre .is .good .packet))
+
+mul-result : tie.Need-mul-result
+mul-result c =
+    let start : tie.Start = search in
+    omega (arith, low c, start .pre .is .good .count)
 
 add-result-2 : tie.Need-add-result-2
 add-result-2 c =
     let start : tie.Start = search in
-    omega (arith, position-low (packetIn (now (start .args .a))) (start .pre .is .good .packet), start .pre .is .good .count)
+    omega (arith, low c, position-low (packetIn (now (start .args .a))) (start .pre .is .good .packet), start .pre .is .good .count)
 
 returns : tie.Need-returns
-returns c = simp (eq-eqb _ _ (c .before .if1 .taken))
-
-returns-2 : tie.Need-returns-2
-returns-2 c = simp (ne-eqb _ _ (c .before .if1 .left))
+returns c = simp (c .stride .ensures .0)
 
 pub position-spec : {M : Type 1} → statement M
 position-spec =
-    tie.close (tie.spec (λ c. search needs) add-first (λ c. search needs) (λ c. search needs) (λ c. search needs)
-    add-result (λ c. search needs) (λ c. search needs) add-result-2 returns returns-2)
+    tie.close (tie.spec (λ c. search needs) add-result (λ c. search needs) (λ c. search needs) (λ c κs. search needs)
+    mul-result add-result-2 returns)
