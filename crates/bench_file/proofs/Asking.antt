@@ -148,8 +148,8 @@ module _ (name : Name) (Says : List ℕ → ℕ → Found → Type 0) (cursor : 
           move ! (8 ∷ []) $ use1 W (raw (At 𝓤 H A .pre to) ⊛ ‵ (held.Own κ d)) (apart (low d (wt .1))) $ split ! $
           calls-at ! fm (At 𝓤 H A) known to (and-then ! (load ! (from ! (stop !)) (look ! 4 refl))
           (and-then ! (load ! (from ! (stop !)) (look ! 2 refl)) (no-more !))) (λ u.
-          use1 W (later (some-of (λ (r : Found). ((‵ (flft κ q) ⊛ ‵ ftrue) ⊛ ‵ (S.the-row .own r (u ∷ []))) ⊛ raw
-          (ensured 𝓤 H A at.ended (at-clauses 𝓤) (κ, tt) (d .bytes, (cursor d, tt)) tt r)))) (id⊢ 𝓤 _) $ await ! tt $
+          use1 W (later (some-of (λ (r : Found). ((‵ (flft κ q) ⊛ ‵ ftrue) ⊛ ‵ (S.the-row .own r (u ∷ [])))
+          ⊛ raw (ensured 𝓤 H A at.ended (at-clauses 𝓤) (κ, tt) (d .bytes, (cursor d, tt)) tt r)))) (id⊢ 𝓤 _) $ await ! tt $
           pick ! (λ r.
           split ! $ move ! (1 ∷ []) $ use1 W (raw (fact 𝓤 (Right r))) (said r) $
           heard ! (Right r) (λ e. split ! $ move ! (1 ∷ []) $

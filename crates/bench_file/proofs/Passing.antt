@@ -154,8 +154,8 @@ module _ (name : Name) (Says : FileReader → Found → Type 0) where
           (and-then ! (load ! (from ! (stop !)) (look ! 8 refl))
           (and-then ! (load ! (from ! (stop !)) (look ! 6 refl))
           (and-then ! (load ! (from ! (stop !)) (look ! 4 refl)) (no-more !)))) (λ u.
-          use1 W (later (some (λ (r : FileReader). ((‵ (flft κ q) ⊛ ‵ ftrue) ⊛ ‵ (held.B (κ, tt) .own r (u ∷ []))) ⊛ raw
-          (ensured 𝓤 H A new.ended (new.clauses 𝓤 H A mem run) (κ, tt) (s, (n, (m, tt))) tt r)))) (id⊢ 𝓤 _) $
+          use1 W (later (some (λ (r : FileReader). ((‵ (flft κ q) ⊛ ‵ ftrue) ⊛ ‵ (held.B (κ, tt) .own r (u ∷ [])))
+          ⊛ raw (ensured 𝓤 H A new.ended (new.clauses 𝓤 H A mem run) (κ, tt) (s, (n, (m, tt))) tt r)))) (id⊢ 𝓤 _) $
           await ! tt $ pick ! (λ r.
           split ! $ move ! (1 ∷ []) $ use1 W (raw (fact 𝓤 (r ≡ readerAt s n m)))
           (made.new-said κ s n m 𝓤 H A mem run r) $ heard ! (r ≡ readerAt s n m) (λ e. split ! $ move ! (1 ∷ []) $
@@ -166,8 +166,8 @@ module _ (name : Name) (Says : FileReader → Found → Type 0) where
           use2 W (raw (Next 𝓤 H A mem run .pre (to-next r u))) (goes-next r u) $
           calls-at ! fm (Next 𝓤 H A mem run) known-next (to-next r u)
           (and-then ! (load ! (from ! (stop !)) (look ! 2 refl)) (no-more !)) (λ u′.
-          use1 W (later (some (λ (t : Found). ((‵ (flft κ q) ⊛ ‵ ftrue) ⊛ ‵ (S.the-row .own t (u′ ∷ []))) ⊛ raw
-          (ensured 𝓤 H A over.ended (over-clauses 𝓤) (κ, tt) (r, tt) tt t)))) (id⊢ 𝓤 _) $ await ! tt $ pick ! (λ t.
+          use1 W (later (some (λ (t : Found). ((‵ (flft κ q) ⊛ ‵ ftrue) ⊛ ‵ (S.the-row .own t (u′ ∷ [])))
+          ⊛ raw (ensured 𝓤 H A over.ended (over-clauses 𝓤) (κ, tt) (r, tt) tt t)))) (id⊢ 𝓤 _) $ await ! tt $ pick ! (λ t.
           split ! $ move ! (1 ∷ []) $ use1 W (raw (fact 𝓤 (Says r t))) (next-said r t) $
           heard ! (Says r t) (λ e′. split ! $ move ! (1 ∷ []) $
           -- [the result; the token; what s owns; _2; …; _1; …; room for _0; …]

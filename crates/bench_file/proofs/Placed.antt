@@ -159,8 +159,8 @@ module _ (name : Name) (moved : FileReader → FileReader) (cursor : FileReader 
           (and-then ! (load ! (from ! (stop !)) (look ! 8 refl))
           (and-then ! (load ! (from ! (stop !)) (look ! 6 refl)) (no-more !)))) (λ u.
           use1 W (later (some-of (λ (r : FileReader).
-          ((‵ (flft κ q) ⊛ ‵ ftrue) ⊛ ‵ (held.B (κ, tt) .own r (u ∷ []))) ⊛ raw
-          (ensured 𝓤 H A new.ended (new.clauses 𝓤 H A mem run) (κ, tt) (s, (n, (m, tt))) tt r)))) (id⊢ 𝓤 _) $
+          ((‵ (flft κ q) ⊛ ‵ ftrue) ⊛ ‵ (held.B (κ, tt) .own r (u ∷ [])))
+          ⊛ raw (ensured 𝓤 H A new.ended (new.clauses 𝓤 H A mem run) (κ, tt) (s, (n, (m, tt))) tt r)))) (id⊢ 𝓤 _) $
           await ! tt $ pick ! (λ r.
           split ! $ move ! (1 ∷ []) $ use1 W (raw (fact 𝓤 (r ≡ readerAt s n m)))
           (made.new-said κ s n m 𝓤 H A mem run r) $ heard ! (r ≡ readerAt s n m) (λ e. split ! $ move ! (1 ∷ []) $
@@ -172,8 +172,8 @@ module _ (name : Name) (moved : FileReader → FileReader) (cursor : FileReader 
           calls-at ! fm (Move 𝓤 H A mem run) known-move (to-move r u)
           (and-then ! (load ! (from ! (stop !)) (look ! 2 refl)) (no-more !)) (λ u′.
           use1 W (later (some-of (λ (t : FileReader).
-          ((‵ (flft κ q) ⊛ ‵ ftrue) ⊛ ‵ (held.B (κ, tt) .own t (u′ ∷ []))) ⊛ raw
-          (ensured 𝓤 H A over.ended (over-clauses 𝓤) (κ, tt) (r, tt) tt t)))) (id⊢ 𝓤 _) $ await ! tt $ pick ! (λ t.
+          ((‵ (flft κ q) ⊛ ‵ ftrue) ⊛ ‵ (held.B (κ, tt) .own t (u′ ∷ [])))
+          ⊛ raw (ensured 𝓤 H A over.ended (over-clauses 𝓤) (κ, tt) (r, tt) tt t)))) (id⊢ 𝓤 _) $ await ! tt $ pick ! (λ t.
           split ! $ move ! (1 ∷ []) $ use1 W (raw (fact 𝓤 (t ≡ moved r))) (move-said r t) $
           heard ! (t ≡ moved r) (λ e′. split ! $ move ! (1 ∷ []) $
           -- [what the moved struct owns; the token; what s owns; _5; …; room for _4; …; _3; …; _2; …; _1; …; room for _0; …]

@@ -1,20 +1,23 @@
--- The codes that a word can give, by what it was taken as. No word gives 990.
+-- The codes that a word can give, by what it was taken as, and a law on what is said of some of them. No word gives 990.
 -- Assumes nothing.
 use Prim.Native.Nat.{ℕ}
 use mathlib.Core.Path.{_≡_, refl, sym, ap, _∙_}
-use mathlib.Core.Bool.{Bool, true, false, _&&_, _||_, true≢false}
+use mathlib.Core.Bool.{Bool, true, false, not, _&&_, _||_, true≢false}
 use mathlib.Core.List.{List, [], _∷_}
 use lib.Dec.{eqb}
+use borrow.Author.Tests.{not-true, ne-eqb}
 use Rattle.words.specs.declared.Word.{Word}
 use Rattle.words.specs.Word.{idOf}
 use Rattle.words.specs.Tdh.{triggerBc, triggerOrbit}
 use Rattle.words.specs.Lanes.{laneAnswer, isMissing}
+use Rattle.words.proofs.Tests.{both}
 use Rattle.data_ids.specs.DataIds.{innerLane, outerLane}
 use Rattle.packet.specs.Settings.{countsOrbits}
 use Rattle.payload_fsm.specs.declared.ItsPayloadWord.{ItsPayloadWord}
 use Rattle.payload_fsm.specs.declared.ItsPayloadWord.the-variants as K
 use Rattle.payload_fsm.proofs.Rows.{choice}
 use Rattle.words.specs.Lists.{Each}
+use Rattle.records.specs.declared.Row.{Row}
 use Rattle.records.proofs.Given.{given-each, each-so}
 use Rattle.tdh_validator.specs.Tdh.{illegal, orbitDifference, ranBack, interval}
 use Rattle.cdp_running.specs.declared.Tracker.{Tracker}
@@ -38,9 +41,22 @@ codesAs K.Ddw0 = 992 ∷ 60 ∷ 1110 ∷ 1111 ∷ []
 abbrev pub In : ItsPayloadWord → ℕ → Type 0
 In kind code = among code (codesAs kind) ≡ true
 
--- A code that is not among them is not given.
-pub not-in : (kind : ItsPayloadWord) (code : ℕ) → among code (codesAs kind) ≡ false → {c : ℕ} → In kind c → c ≡ code → ⊥
-not-in kind code e {c} p q = true≢false (sym p ∙ ap (λ (n : ℕ). among n (codesAs kind)) q ∙ e)
+-- A code that is not in a list is none that is.
+pub other-code : (codes : List ℕ) {code c : ℕ} → among code codes ≡ false → among c codes ≡ true → code ≡ c → ⊥
+other-code codes e p q = true≢false (sym p ∙ ap (λ (n : ℕ). among n codes) (sym q) ∙ e)
+
+-- Whether a kind gives none of some codes.
+abbrev pub without : List ℕ → ItsPayloadWord → Bool
+without [] kind = true
+without (c ∷ cs) kind = not (among c (codesAs kind)) && without cs kind
+
+none-of : (codes : List ℕ) (kind : ItsPayloadWord) → without codes kind ≡ true → (code : ℕ) → In kind code
+    → among code codes ≡ false
+none-of [] kind e code i = refl
+none-of (c ∷ cs) kind e code i =
+    let (off, rest) = both (not (among c (codesAs kind))) (without cs kind) e in
+    let apart = other-code (codesAs kind) (not-true _ off) i in
+    rw (ne-eqb code c (λ q. apart (sym q))) (none-of cs kind rest code i)
 
 -- The interval has one of three codes, in either kind.
 interval-in : (kind : ItsPayloadWord) → In kind 1045 → In kind 1046 → In kind 45 → (t : Tracker) (w : Word)
@@ -73,16 +89,20 @@ rows-in K.Cdw guessed t w = data-in guessed t w
 rows-in K.Tdt guessed t w = (refl, (refl, tt))
 rows-in K.Ddw0 guessed t w = (refl, (refl, (refl, (refl, tt))))
 
-none-is-990 : (kind : ItsPayloadWord) → among 990 (codesAs kind) ≡ false
-none-is-990 K.Ihw = refl
-none-is-990 K.IhwContinuation = refl
-none-is-990 K.Tdh = refl
-none-is-990 K.TdhAfterPacketDone = refl
-none-is-990 K.TdhContinuation = refl
-none-is-990 K.DataWord = refl
-none-is-990 K.Cdw = refl
-none-is-990 K.Tdt = refl
-none-is-990 K.Ddw0 = refl
+no-990 : (kind : ItsPayloadWord) → without (990 ∷ []) kind ≡ true
+no-990 K.Ihw = refl
+no-990 K.IhwContinuation = refl
+no-990 K.Tdh = refl
+no-990 K.TdhAfterPacketDone = refl
+no-990 K.TdhContinuation = refl
+no-990 K.DataWord = refl
+no-990 K.Cdw = refl
+no-990 K.Tdt = refl
+no-990 K.Ddw0 = refl
+
+-- What holds of a row's code and first number where its condition holds.
+abbrev pub Told : (ℕ → ℕ → Type 0) → Row → Type 0
+Told P row = row .on ≡ true → P (row .code) (row .first)
 
 module _ (t : Tracker) (w : Word) where
   -- A word gives no code but those of what it was taken as.
@@ -93,7 +113,26 @@ module _ (t : Tracker) (w : Word) where
       given-each (λ r. In (a .word) (r .code)) (positionNow t) (rowsOf t a w)
       (each-so (λ row p _. p) (rowsOf t a w) (rows-in (a .word) (a .guessed) t w))
 
+  -- What is said of records with some codes has to be shown of the rows of those kinds alone that give one of them.
+  module _ (P : ℕ → ℕ → Type 0) (codes : List ℕ) (aside : (code first : ℕ) → among code codes ≡ false → P code first) where
+    pub by-codes : ((kind : ItsPayloadWord) (guessed : Bool) → without codes kind ≡ false → takenAs t w .word ≡ kind
+        → Each (Told P) (rowsAs kind guessed t w)) → Each (λ r. P (r .code) (r .first)) (recordsOf t w)
+    unfolding recordsOf
+    by-codes there =
+        let a = takenAs t w in
+        given-each (λ r. P (r .code) (r .first)) (positionNow t) (rowsOf t a w)
+        (at (a .word) (a .guessed) refl (without codes (a .word)) refl)
+      where
+        at : (kind : ItsPayloadWord) (guessed : Bool) → takenAs t w .word ≡ kind → (b : Bool) → without codes kind ≡ b
+            → Each (Told P) (rowsAs kind guessed t w)
+        at kind guessed e true n =
+            each-so (λ row i _. aside (row .code) (row .first) (none-of codes kind n (row .code) i))
+            (rowsAs kind guessed t w) (rows-in kind guessed t w)
+        at kind guessed e false n = there kind guessed n e
+
   -- No record has code 990.
   pub none-990 : Each (λ r. r .code ≡ 990 → ⊥) (recordsOf t w)
   none-990 =
-      each-so (λ r. not-in (takenAs t w .word) 990 (none-is-990 (takenAs t w .word))) (recordsOf t w) codes-by-kind
+      let kind = takenAs t w .word in
+      each-so (λ r i. other-code (990 ∷ []) (none-of (990 ∷ []) kind (no-990 kind) (r .code) i) refl)
+      (recordsOf t w) codes-by-kind

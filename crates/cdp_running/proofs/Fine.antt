@@ -29,16 +29,16 @@ count-low (row ∷ rows) = at (row .on) (count-low rows)
     at false h = omega arith
 
 -- Rows by kind: at most six.
-six : (kind : ItsPayloadWord) (guessed : Bool) (t : Tracker) (w : Word) → length (rowsAs kind guessed t w) ≤ mostRecords
-six K.Ihw guessed t w = omega arith
-six K.IhwContinuation guessed t w = omega arith
-six K.Tdh guessed t w = omega arith
-six K.TdhAfterPacketDone guessed t w = omega arith
-six K.TdhContinuation guessed t w = omega arith
-six K.DataWord guessed t w = omega arith
-six K.Cdw guessed t w = omega arith
-six K.Tdt guessed t w = omega arith
-six K.Ddw0 guessed t w = omega arith
+few-rows : (kind : ItsPayloadWord) (guessed : Bool) (t : Tracker) (w : Word) → length (rowsAs kind guessed t w) ≤ mostRecords
+few-rows K.Ihw guessed t w = omega arith
+few-rows K.IhwContinuation guessed t w = omega arith
+few-rows K.Tdh guessed t w = omega arith
+few-rows K.TdhAfterPacketDone guessed t w = omega arith
+few-rows K.TdhContinuation guessed t w = omega arith
+few-rows K.DataWord guessed t w = omega arith
+few-rows K.Cdw guessed t w = omega arith
+few-rows K.Tdt guessed t w = omega arith
+few-rows K.Ddw0 guessed t w = omega arith
 
 module _ (t : Tracker) (w : Word) where
   -- "One word gives at most six".
@@ -47,7 +47,7 @@ module _ (t : Tracker) (w : Word) where
   few-records =
       let a = takenAs t w in
       let rows = rowsOf t a w in
-      omega (arith, counted (positionNow t) rows, count-low rows, six (a .word) (a .guessed) t w)
+      omega (arith, counted (positionNow t) rows, count-low rows, few-rows (a .word) (a .guessed) t w)
 
   -- Positions are at most 2^62 + 64 + 16 * 4095.
   pub positions : Good t → t .at .count < maxWords → Each (λ r. r .position ≤ mostPosition) (recordsOf t w)

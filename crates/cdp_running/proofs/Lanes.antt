@@ -3,8 +3,8 @@
 -- Assumes nothing.
 use Prim.Native.Nat.{ℕ, _/_, _<_}
 use mathlib.Core.Path.{_≡_, refl, _∙_}
-use mathlib.Core.Bool.{Bool, true, false}
-use mathlib.Core.List.{[], _∷_}
+use mathlib.Core.Bool.{Bool, true, false, true≢false}
+use mathlib.Core.List.{List, [], _∷_}
 use native.Mathlib.Omega.{arith}
 use lib.Dec.{eqb}
 use borrow.Author.Tests.{eqb-true, ne-eqb}
@@ -13,63 +13,46 @@ use Rattle.words.specs.Word.{idOf}
 use Rattle.data_ids.specs.DataIds.{isDataId, innerLane, outerLane}
 use Rattle.payload_fsm.specs.declared.ItsPayloadWord.{ItsPayloadWord}
 use Rattle.payload_fsm.specs.declared.ItsPayloadWord.the-variants as K
-use Rattle.payload_fsm.specs.Kinds.{isData}
 use Rattle.payload_fsm.specs.Step.{amongData, guess}
 use Rattle.payload_fsm.proofs.States.{in-data}
-use Rattle.records.specs.declared.Row.{Row}
 use Rattle.words.specs.Lists.{Each}
 use Rattle.records.specs.Records.{Record, recordAt, when}
-use Rattle.records.proofs.Given.{given-each, each-so}
 use Rattle.validators.specs.DataWords.{inner, outer}
 use Rattle.validators.proofs.Lanes.{Cable, lanes-told, inner-missing, outer-missing}
 use Rattle.cdp_running.specs.declared.Tracker.{Tracker}
-use Rattle.cdp_running.specs.Word.{rowsAs, rowsOf, takenAs, positionNow, recordsOf}
-use Rattle.cdp_running.proofs.Codes.{among, codesAs, not-in, rows-in}
-
--- The three codes are of a data word or CDW alone.
-of-data : (kind : ItsPayloadWord) → (among 1072 (codesAs kind) ≡ isData kind)
-    × ((among 1071 (codesAs kind) ≡ isData kind) × (among 1074 (codesAs kind) ≡ isData kind))
-of-data K.Ihw = (refl, (refl, refl))
-of-data K.IhwContinuation = (refl, (refl, refl))
-of-data K.Tdh = (refl, (refl, refl))
-of-data K.TdhAfterPacketDone = (refl, (refl, refl))
-of-data K.TdhContinuation = (refl, (refl, refl))
-of-data K.DataWord = (refl, (refl, refl))
-of-data K.Cdw = (refl, (refl, refl))
-of-data K.Tdt = (refl, (refl, refl))
-of-data K.Ddw0 = (refl, (refl, refl))
+use Rattle.cdp_running.specs.Word.{rowsAs, takenAs, positionNow, recordsOf}
+use Rattle.cdp_running.proofs.Codes.{among, other-code, without, Told, by-codes}
 
 module _ (t : Tracker) (w : Word) where
-  abbrev Told : Row → Type 0
-  Told row = row .on ≡ true → Cable (idOf w) (row .code) (row .first)
+  abbrev laneCodes : List ℕ
+  laneCodes = 1072 ∷ 1071 ∷ 1074 ∷ []
 
-  elsewhere : (kind : ItsPayloadWord) (guessed : Bool) → isData kind ≡ false → Each Told (rowsAs kind guessed t w)
-  elsewhere kind guessed e =
-      each-so
-      (λ row p _. record {
-        inner-lane = λ q. absurd (not-in kind 1072 (of-data kind .0 ∙ e) p q);
-        outer-lane = λ q. absurd (not-in kind 1071 (of-data kind .1 .0 ∙ e) p q);
-        no-lane = λ q. absurd (not-in kind 1074 (of-data kind .1 .1 ∙ e) p q);
-      })
-      (rowsAs kind guessed t w) (rows-in kind guessed t w)
+  aside : (code first : ℕ) → among code laneCodes ≡ false → Cable (idOf w) code first
+  aside code first e =
+      record {
+        inner-lane = λ q. absurd (other-code laneCodes e refl q);
+        outer-lane = λ q. absurd (other-code laneCodes e refl q);
+        no-lane = λ q. absurd (other-code laneCodes e refl q);
+      }
 
-  by-kind : (kind : ItsPayloadWord) (guessed : Bool) → Each Told (rowsAs kind guessed t w)
-  by-kind K.Ihw guessed = elsewhere K.Ihw guessed refl
-  by-kind K.IhwContinuation guessed = elsewhere K.IhwContinuation guessed refl
-  by-kind K.Tdh guessed = elsewhere K.Tdh guessed refl
-  by-kind K.TdhAfterPacketDone guessed = elsewhere K.TdhAfterPacketDone guessed refl
-  by-kind K.TdhContinuation guessed = elsewhere K.TdhContinuation guessed refl
-  by-kind K.DataWord guessed = lanes-told (t .settings) (t .at .seen) (t .stored .ihw .lanes) (t .stored .cdw) guessed w
-  by-kind K.Cdw guessed = lanes-told (t .settings) (t .at .seen) (t .stored .ihw .lanes) (t .stored .cdw) guessed w
-  by-kind K.Tdt guessed = elsewhere K.Tdt guessed refl
-  by-kind K.Ddw0 guessed = elsewhere K.Ddw0 guessed refl
+  -- The three codes are of a data word or CDW alone, which have the same rows.
+  of-data : (guessed : Bool) → Each (Told (Cable (idOf w))) (rowsAs K.DataWord guessed t w)
+  of-data guessed = lanes-told (t .settings) (t .at .seen) (t .stored .ihw .lanes) (t .stored .cdw) guessed w
+
+  by-kind : (kind : ItsPayloadWord) (guessed : Bool) → without laneCodes kind ≡ false → takenAs t w .word ≡ kind
+      → Each (Told (Cable (idOf w))) (rowsAs kind guessed t w)
+  by-kind K.Ihw guessed n e = absurd (true≢false n)
+  by-kind K.IhwContinuation guessed n e = absurd (true≢false n)
+  by-kind K.Tdh guessed n e = absurd (true≢false n)
+  by-kind K.TdhAfterPacketDone guessed n e = absurd (true≢false n)
+  by-kind K.TdhContinuation guessed n e = absurd (true≢false n)
+  by-kind K.DataWord guessed n e = of-data guessed
+  by-kind K.Cdw guessed n e = of-data guessed
+  by-kind K.Tdt guessed n e = absurd (true≢false n)
+  by-kind K.Ddw0 guessed n e = absurd (true≢false n)
 
   pub cables : Each (λ r. Cable (idOf w) (r .code) (r .first)) (recordsOf t w)
-  unfolding recordsOf
-  cables =
-      let a = takenAs t w in
-      given-each (λ r. Cable (idOf w) (r .code) (r .first)) (positionNow t) (rowsOf t a w)
-      (by-kind (a .word) (a .guessed))
+  cables = by-codes t w (Cable (idOf w)) laneCodes aside by-kind
 
   -- With running checks, in DATA_ and c_DATA_: the records of a word whose id is of a barrel and no data id, whatever came before.
   module _ (state : amongData (t .at .fsm .state) ≡ true) (running : t .settings .running ≡ true)

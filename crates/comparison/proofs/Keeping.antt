@@ -63,8 +63,8 @@ module _ (a b : List ℕ) where
   comesAt l S.Fields =
       eachOne (7 - l .part) (l .part) (fieldPlace a b (l .packet)) ++ (rowOf (l .packet) ++ packetsFrom (l .packet + 1))
   comesAt l S.Bytes =
-      eachOne (10 * commonWords a b (l .packet) - l .part) (l .part) (rowPlace (l .packet)) ++ packetsFrom
-      (l .packet + 1)
+      eachOne (10 * commonWords a b (l .packet) - l .part) (l .part) (rowPlace (l .packet))
+      ++ packetsFrom (l .packet + 1)
   comesAt l S.Last = []
   comesAt l (S.Refused n file) = []
   comesAt l S.Done = []
@@ -245,8 +245,8 @@ module _ (a b : List ℕ) where
       let h = ltb-true _ _ t in
       looked (atStage S.Bytes l) S.Bytes (l .packet) (l .part + 1) (l .first) (l .second)
       (rowPlace (l .packet) (l .part))
-      (eachOne (10 * commonWords a b (l .packet) - (l .part + 1)) (l .part + 1) (rowPlace (l .packet)) ++ packetsFrom
-      (l .packet + 1)) low
+      (eachOne (10 * commonWords a b (l .packet) - (l .part + 1)) (l .part + 1) (rowPlace (l .packet))
+      ++ packetsFrom (l .packet + 1)) low
       (record {
         rest = λ count. refl;
         good =

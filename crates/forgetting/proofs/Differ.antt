@@ -177,8 +177,8 @@ by-short before is = record { earlier = before; marker = _; is = is; is-marker =
 
 by-three : (t : Tracker) (past : List Call) (before : List Word) (lanes bc : ℕ)
     → wordsIn (took t past)
-    ≡ before ++ (wordOf (ten lanes 0 0 0 0x20) ∷ wordOf (ten 0 0x10 bc 0 0x20) ∷ wordOf (ten 0 0 0 0 0x20) ∷ wordOf
-    (ten 0 0 0 1 0xF0) ∷ [])
+    ≡ before ++ (wordOf (ten lanes 0 0 0 0x20) ∷ wordOf (ten 0 0x10 bc 0 0x20) ∷ wordOf (ten 0 0 0 0 0x20)
+    ∷ wordOf (ten 0 0 0 1 0xF0) ∷ [])
     → DataClear (wordOf (ten lanes 0 0 0 0x20)) → DataClear (wordOf (ten 0 0x10 bc 0 0x20)) → Each NoReset past
     → AcceptedMarker t past
 by-three t past before lanes bc is first second no-reset =
@@ -413,8 +413,8 @@ with-cdw user past = ihw 1 ∷ tdh 0 ∷ cdw user ∷ tdt-done ∷ past
 
 abbrev pub words-before : ℕ → List Word
 words-before user =
-    wordOf (ten 1 0 0 0 0xE0) ∷ wordOf (ten 1 0 0 0 0xE8) ∷ wordOf (ten user 0 0 1 0xF8) ∷ wordOf
-    (ten 0 0 0 1 0xF0) ∷ []
+    wordOf (ten 1 0 0 0 0xE0) ∷ wordOf (ten 1 0 0 0 0xE8) ∷ wordOf (ten user 0 0 1 0xF8)
+    ∷ wordOf (ten 0 0 0 1 0xF0) ∷ []
 
 eight : Each NoReset (with-cdw 0 (short 0 0))
 eight = (tt, (tt, (tt, (tt, (tt, (tt, (tt, (tt, tt))))))))

@@ -104,8 +104,8 @@ pub data Alike (m : Met) (t : Tracker) (w : Word) : Outcome → Outcome → Type
       → Alike m t w (taken x) (taken y)
 
 -- Six places are room enough.
-six-fit : (t : Tracker) (w : Word) (places : ℕ) → mostRecords ≤ places → exceed (recordsOf t w) places ≡ false
-six-fit t w places h = le-ltb places (length (recordsOf t w)) (omega (arith, few-records t w))
+few-fit : (t : Tracker) (w : Word) (places : ℕ) → mostRecords ≤ places → exceed (recordsOf t w) places ≡ false
+few-fit t w places h = le-ltb places (length (recordsOf t w)) (omega (arith, few-records t w))
 
 -- Of the tracker that stores the other's things.
 taken-alike : {m : Met} {t u : Tracker} (w : Word) → Same m t u → Alike m t w (takenOf t w) (takenOf u w)
@@ -122,7 +122,7 @@ word-alike {m = m} {t = t} b p q s hp hq =
     subst (λ (x : Tracker). Alike m t (wordOf b) (wordCall t b p) (wordCall x b q)) (s .is)
     (at (eqb (length b) 10) (t .accepted) (leb maxWords (t .at .count)) (exceed (recordsOf t w) p)
     (exceed (recordsOf (other s) w) q)
-    (λ e. six-fit t w p (hp (eqb-true _ _ e))) (λ e. six-fit (other s) w q (hq (eqb-true _ _ e))))
+    (λ e. few-fit t w p (hp (eqb-true _ _ e))) (λ e. few-fit (other s) w q (hq (eqb-true _ _ e))))
   where
     w : Word
     w = wordOf b

@@ -95,8 +95,8 @@ module _ (t : Tracker) (s : State) (w : Word) where
       → storesOf kind w (positionNow t) l ≡ storesOf K.Tdh w (positionNow t) l)
       → (g : Bool) → encodeOf (nextTracker t (record { word = kind; guessed = g; fsm = record { state = s } }) w)
       ≡ encodeOf (nextTracker t (record { word = K.Tdh; guessed = g; fsm = record { state = s } }) w)
-      → storesOf kind w (positionNow t) counted ≡ encodeOf
-      (nextTracker t (record { word = kind; guessed = g; fsm = record { state = s } }) w)
+      → storesOf kind w (positionNow t) counted
+      ≡ encodeOf (nextTracker t (record { word = kind; guessed = g; fsm = record { state = s } }) w)
   unfolding encodeOf
   tdh-is kind p g q =
       p counted ∙ simp flag-back (tdh-if (eqb (internalTrigger w) 1)
@@ -155,8 +155,8 @@ by-stores l a w kind h p e q r = r ∙ (λ i. storesOf (sym e i) w (p i) (q i)) 
 
 -- A packet that is accepted, and a reset.
 pub accepts : (l : List ℕ) (p : Packet) → GoodArray l
-    → set (set (sets (set l P.accepted 1) P.packet (packetNumbers p)) P.count 0) P.seen 0 ≡ encodeOf
-    (acceptOf (trackerIn l) p)
+    → set (set (sets (set l P.accepted 1) P.packet (packetNumbers p)) P.count 0) P.seen 0
+    ≡ encodeOf (acceptOf (trackerIn l) p)
 unfolding encodeOf
 accepts l p h =
     ap (λ (x : List ℕ). set (set (sets (set x P.accepted 1) P.packet (packetNumbers p)) P.count 0) P.seen 0) (h .is .numbers)

@@ -57,8 +57,8 @@ module _ {position : ℕ} {rows : List Row} {out₀ out : List ℕ} {used i : �
         (take i rows) ++ (recordAt position (getD rows i none) ∷ [])
     longer = simp on at (given-more position rows i none lt)
 
-    longer-flat : flat (given position (take (i + 1) rows)) ≡ flat (given position (take i rows)) ++ numbers
-        (recordAt position (getD rows i none))
+    longer-flat : flat (given position (take (i + 1) rows)) ≡ flat (given position (take i rows))
+        ++ numbers (recordAt position (getD rows i none))
     unfolding flat
     longer-flat =
         ap flat longer ∙ flat-append (given position (take i rows)) (recordAt position (getD rows i none) ∷ [])

@@ -43,8 +43,8 @@ records-more (suc i) d =
           second = at (recordWidth * i + 3) (recordWidth * suc i + 3) (omega arith) j;
         }
 
-lines-more : (i : ℕ) (d : List ℕ) → lines (recordsAt i d) ++ line (recordFrom d (recordWidth * i)) ≡ lines
-    (recordsAt (i + 1) d)
+lines-more : (i : ℕ) (d : List ℕ) → lines (recordsAt i d) ++ line (recordFrom d (recordWidth * i))
+    ≡ lines (recordsAt (i + 1) d)
 unfolding lines
 lines-more i d =
     let r = recordFrom d (recordWidth * i) in

@@ -62,14 +62,14 @@ started file p q h = (rw (q, p, h), rw (q, p, h) (good-start file))
 -- A word's records, as its call told them and left them in the buffer.
 module _ (t : Tracker) (bytes : List ℕ) {zeros after : List ℕ} {a : WordAnswer} (w : WordPost t bytes zeros a after)
     (n : length zeros ≡ mostRecords * recordWidth) where
-  six : room zeros ≡ mostRecords
-  six = omega arith
+  places : room zeros ≡ mostRecords
+  places = omega arith
 
   answered : a ≡ wordAnswer t (wordCall t bytes mostRecords)
-  answered = rw six at (w .answer)
+  answered = rw places at (w .answer)
 
   stand : after ≡ over (flat (recordsIn (wordCall t bytes mostRecords))) zeros
-  stand = rw six at (w .buffer-is)
+  stand = rw places at (w .buffer-is)
 
   told : (o : Outcome) → numbersOf (wordAnswer t o .told) .records ≡ length (recordsIn o)
   told (taken x) = refl

@@ -147,8 +147,8 @@ in-form a long e =
 
 -- Where no packet was accepted, a tracker is one that the start gave: nothing stands in it but the settings.
 pub bare-good : (a : List ℕ) → InForm a → isOn (place a P.accepted) ≡ false
-    → (settingsGood (settingsIn a) && zerosFrom (P.unused - P.packet) P.packet a) ≡ (leb (place a P.state) 6 && isGood
-    (trackerIn a))
+    → (settingsGood (settingsIn a) && zerosFrom (P.unused - P.packet) P.packet a) ≡ (leb (place a P.state) 6
+    && isGood (trackerIn a))
 unfolding numbersFrom encodeOf zerosFrom
 bare-good a f off = tests-agree _ _ there back
   where
@@ -156,8 +156,8 @@ bare-good a f off = tests-agree _ _ there back
         → (leb (place a P.state) 6 && isGood (trackerIn a)) ≡ true
     there e =
         let (set, zeros) = both (settingsGood (settingsIn a)) _ e in
-        let same : a ≡ numbersFrom P.packet 0 a ++ (replicate (P.unused - P.packet) 0 ++ numbersFrom
-        (size - P.unused) P.unused a) =
+        let same : a ≡ numbersFrom P.packet 0 a ++ (replicate (P.unused - P.packet) 0
+        ++ numbersFrom (size - P.unused) P.unused a) =
         sym (spelled size 0 a (f .long)) ∙ in-two P.packet (size - P.packet) 0 a
         ∙ ap (λ (l : List ℕ). numbersFrom P.packet 0 a ++ l)
         (in-two (P.unused - P.packet) (size - P.unused) P.packet a

@@ -29,8 +29,8 @@ inBarrel ofInner id = eqb (id / 32) (cond ofInner 0b001 0b010)
 
 -- Of these, those whose lane is above the barrel's last are those that are no data ids. Computed over the 256 ids.
 past-last : (ofInner : Bool) (id : ℕ) → id < 256
-    → (inBarrel ofInner id && ltb (lastLane ofInner) (laneNumber id ofInner)) ≡ (inBarrel ofInner id && not
-    (isDataId id))
+    → (inBarrel ofInner id && ltb (lastLane ofInner) (laneNumber id ofInner)) ≡ (inBarrel ofInner id
+    && not (isDataId id))
 past-last true = same-at-ids _ _ refl
 past-last false = same-at-ids _ _ refl
 

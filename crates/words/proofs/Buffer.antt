@@ -20,8 +20,8 @@ tail-back a d y =
     ∙ ap (λ (l : List ℕ). take a d ++ l) (append-nil y)
 
 -- Written twice, the second behind the first, is written once.
-pub over-over : (xs zs d : List ℕ) → take (length xs) (over xs d) ++ over zs (drop (length xs) (over xs d)) ≡ over
-    (xs ++ zs) d
+pub over-over : (xs zs d : List ℕ) → take (length xs) (over xs d) ++ over zs (drop (length xs) (over xs d))
+    ≡ over (xs ++ zs) d
 over-over xs zs d = simp (take-append-seam, drop-append-seam, drop-drop, length-append, append-assoc)
 
 -- A tail that was lent on and written, of a buffer that was written before it.

@@ -84,8 +84,8 @@ module _ {M : Type 1} (𝓤 : URA M) (H : Heap 𝓤) (A : Atoms 𝓤) (W : Given
       (moving.apart pastPacket cursor moved 𝓤 H A W κ q d (wt .1 .1 .0 .fits)) $ split ! $
       calls-at ! fm Past known to (and-then ! (load ! (from ! (stop !)) (look ! 6 refl))
       (and-then ! (load ! (from ! (stop !)) (look ! 4 refl)) (no-more !))) (λ u.
-      use1 W (later (some (λ (n : ℕ). ((‵ (flft κ q) ⊛ ‵ ftrue) ⊛ ‵ (usize .own n (u ∷ []))) ⊛ raw
-      (ensured 𝓤 H A step.ended (moving.past-clauses pastPacket cursor moved 𝓤) (κ, tt)
+      use1 W (later (some (λ (n : ℕ). ((‵ (flft κ q) ⊛ ‵ ftrue) ⊛ ‵ (usize .own n (u ∷ [])))
+      ⊛ raw (ensured 𝓤 H A step.ended (moving.past-clauses pastPacket cursor moved 𝓤) (κ, tt)
       (d .bytes, (cursor d, tt)) tt n)))) (id⊢ 𝓤 _) $ await ! tt $ pick ! (λ n.
       split ! $ move ! (1 ∷ []) $ use1 W (raw (fact 𝓤 (n ≡ on))) (moving.said pastPacket cursor moved 𝓤 H A W κ q d n) $
       heard ! (n ≡ on) (λ e. split ! $ move ! (1 ∷ []) $

@@ -17,8 +17,8 @@ there : (c : tie.Then1) → hasPacket (now (c .before .before .before .args .fil
     (c .before .before .before .args .packet) ≡ true
 there c = sym (c .before .has-packet .ensures) ∙ c .if1 .taken
 
-inside : (c : tie.Then1) → packetPlace (c .before .before .before .args .packet) + packetBytes ≤ length
-    (now (c .before .before .before .args .file))
+inside : (c : tie.Then1) → packetPlace (c .before .before .before .args .packet) + packetBytes
+    ≤ length (now (c .before .before .before .args .file))
 inside c =
     packet-inside (now (c .before .before .before .args .file)) (c .before .before .before .args .packet) (there c)
 

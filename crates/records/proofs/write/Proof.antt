@@ -29,8 +29,8 @@ loop-holds c =
     (now (c .before .before .before .args .out))
     (omega (arith, counted (c .before .before .before .args .position) (c .before .before .before .args .t3), c .before .count .ensures))
 
-fits : (c : tie.Then2 Inv-loop μ-loop) → c .before .before .before .loop .used + recordWidth ≤ length
-    (c .before .before .before .loop .out)
+fits : (c : tie.Then2 Inv-loop μ-loop) → c .before .before .before .loop .used + recordWidth
+    ≤ length (c .before .before .before .loop .out)
 fits c = has-room (c .before .before .before .loop .inv) (search needs) (c .if2 .taken)
 
 mul-put : tie.Need-mul-put Inv-loop μ-loop
