@@ -10,9 +10,6 @@ import sys
 
 TOP = os.path.dirname(os.path.dirname(os.path.abspath(__file__)))
 
-# Proofs in which a tactic writes the name.
-WRITTEN = {'comparison/proofs/count_at/Proof.antt': {'_≡_'}, 'comparison/proofs/field_at/Proof.antt': {'_≡_'}}
-
 GROUP = re.compile(r'^(\s*(?:ghost )?use [^{]*\.)\{(.*)\}(;?)$')
 ALIAS = re.compile(r'^\s*(?:ghost )?use \S+ as (\w+);?$')
 ITEM = re.compile(r'^use (?:\w+::)+(\w+);$')
@@ -25,7 +22,7 @@ def used(name, body):
     return all(re.search(rf'(?<!{PART}){re.escape(p)}(?!{PART})', body) for p in parts)
 
 
-def without_unused(path, text):
+def without_unused(text):
     """the text without what it does not use, and the names that are gone"""
     lines = text.split('\n')
     code = (re.sub(r'(--|//) .*$', '', line) for line in lines if not re.match(r'^\s*(pub )?(ghost )?use ', line))
@@ -35,7 +32,7 @@ def without_unused(path, text):
         group, one = GROUP.match(line), ALIAS.match(line) or ITEM.match(line)
         if group:
             names = group.group(2).split(', ')
-            stay = [n for n in names if used(n.split(' as ')[-1], body) or n in WRITTEN.get(path, ())]
+            stay = [n for n in names if used(n.split(' as ')[-1], body)]
             gone += [n for n in names if n not in stay]
             if stay:
                 kept.append(f'{group.group(1)}{{{", ".join(stay)}}}{group.group(3)}')
@@ -60,7 +57,7 @@ def main():
             path = os.path.relpath(full, crates)
             with open(full, encoding='utf8') as f:
                 text = f.read()
-            new, gone = without_unused(path, text)
+            new, gone = without_unused(text)
             files += 1
             unused += len(gone)
             if gone and fix:

@@ -125,33 +125,26 @@ module _ (t : Tracker) (bytes buffer : List ℕ) (g : Good t) where
         unfolding recordsOf
         records-are = given-padded (positionNow t) (rowsOf t (takenAs t (wordOf bytes)) (wordOf bytes))
 
+        -- What the write of the word's rows answered and left.
         abbrev Wrote : Written → List ℕ → Type 0
         Wrote x after =
-            (x ≡ cond (exceed (recordsOf t (wordOf bytes)) (room buffer)) NoRoom
-            (Records (length (recordsOf t (wordOf bytes)))))
-            × (after ≡ cond (exceed (recordsOf t (wordOf bytes)) (room buffer)) buffer
-            (over (flat (recordsOf t (wordOf bytes))) buffer))
-
-        pub of-word : {x : Written} {after : List ℕ}
-            → WritePost (positionNow t) (padded (rowsOf t (takenAs t (wordOf bytes)) (wordOf bytes))) buffer x after
-            → Wrote x after
-        of-word w = (rw records-are at (w .answer), rw records-are at (w .buffer-is))
+            WritePost (positionNow t) (padded (rowsOf t (takenAs t (wordOf bytes)) (wordOf bytes))) buffer x after
 
         pub word-4 : {r : WordAnswer} {after : List ℕ} {x : Written} → Wrote x after → x ≡ NoRoom
             → r ≡ wordAnswer t (refused 4)
             → WordPost t bytes buffer r after
         word-4 w e a =
             let full = no-room (exceed (recordsOf t (wordOf bytes)) (room buffer)) (length (recordsOf t (wordOf bytes)))
-            (w .0) e in
-            let stays = simp full at (w .1) in
+            (rw records-are at (w .answer)) e in
+            let stays = simp (records-are, full) at (w .buffer-is) in
             rw stays (refusal 4 (reached ∙ simp full) a)
 
         pub word-taken : {r : WordAnswer} {after : List ℕ} {x : Written} {n : ℕ} → Wrote x after → x ≡ Records n
             → r ≡ takenAnswer t (takenAs t (wordOf bytes)) (wordOf bytes) n → WordPost t bytes buffer r after
         unfolding takenOf
         word-taken w e a =
-            let fits = wrote (exceed (recordsOf t (wordOf bytes)) (room buffer)) (w .0) e in
-            let is = simp (fits .0) at (w .1) in
+            let fits = wrote (exceed (recordsOf t (wordOf bytes)) (room buffer)) (rw records-are at (w .answer)) e in
+            let is = simp (records-are, fits .0) at (w .buffer-is) in
             met (takenOf t (wordOf bytes)) (reached ∙ simp (fits .0))
             (a ∙ ap (takenAnswer t (takenAs t (wordOf bytes)) (wordOf bytes)) (fits .1)) is
             (good-next t (wordOf bytes) g p h)

@@ -31,7 +31,7 @@ use Rattle.cdp_running.specs.declared.Told.the-variants as T
 use Rattle.cdp_running.specs.declared.WordAnswer.{WordAnswer}
 use Rattle.cdp_running.specs.Next.{nextTracker}
 use Rattle.cdp_running.specs.Word.{Outcome, refused, takenAs, positionNow, rowsAs, rowsOf, recordsOf, takenAnswer, wordAnswer, recordsIn, WordPost}
-use Rattle.cdp_running.proofs.Calls.{word-1, word-2, word-3, word-4, word-taken, of-word}
+use Rattle.cdp_running.proofs.Calls.{word-1, word-2, word-3, word-4, word-taken}
 use Rattle.tracker_array.specs.Array.{encodeOf, isOn}
 use Rattle.tracker_array.specs.Place as P
 use Rattle.tracker_array.specs.Read.{place, trackerIn}
@@ -166,8 +166,7 @@ module _ (a bytes buffer : List ℕ) (h : GoodArray a) (ten : length bytes ≡ 1
       → WordPost cur bytes buffer (takenAnswer cur (takenAs cur word) word n) buffer-after
   took s =
       let b = eq-eqb _ _ ten in
-      word-taken cur bytes buffer (h .is .good) b have low
-      (of-word cur bytes buffer (h .is .good) b have low (s .wrote)) refl refl
+      word-taken cur bytes buffer (h .is .good) b have low (s .wrote) refl refl
 
   pub took-numbers : {n : ℕ} {after buffer-after : List ℕ} → StepInPlace a word buffer (Records n) after buffer-after
       → after
@@ -178,7 +177,7 @@ module _ (a bytes buffer : List ℕ) (h : GoodArray a) (ten : length bytes ≡ 1
       → WordPost cur bytes buffer (wordAnswer cur (refused 4)) buffer-after
   denied s =
       let b = eq-eqb _ _ ten in
-      word-4 cur bytes buffer (h .is .good) b have low (of-word cur bytes buffer (h .is .good) b have low (s .wrote)) refl refl
+      word-4 cur bytes buffer (h .is .good) b have low (s .wrote) refl refl
 
   pub denied-numbers : {after buffer-after : List ℕ} → StepInPlace a word buffer NoRoom after buffer-after → after ≡ a
   denied-numbers s = let e = no-room a word (s .wrote) refl in simp e at (s .numbers)

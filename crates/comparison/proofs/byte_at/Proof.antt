@@ -7,7 +7,7 @@ use lib.ListN.{length, getD}
 use denote.Ref.{now}
 use Rattle.words.proofs.LittleEndian.{byte}
 use Rattle.bench_file.specs.File.{wordPlace}
-use Rattle.bench_file.proofs.Finding.{word-found, word-inside}
+use Rattle.bench_file.proofs.Finding.{word-inside, word-is, word-no-packet, word-no-end}
 use borrow.Author.Needs.{needs}
 use Rattle.comparison.proofs.byte_at.Statement.{statement}
 use Rattle.comparison.proofs.byte_at.Tie as tie
@@ -16,8 +16,7 @@ place-is : (c : tie.After-known-told) → let start : tie.Start = search in
     c .before .at .given .0 .0 ≡ wordPlace (now (start .args .file)) (start .args .word)
 place-is c =
     let start : tie.Start = search in
-    let e = sym (c .before .at .given .1) ∙ c .before .before .before .word-at .ensures .answer
-    ∙ word-found (now (start .args .file)) (start .args .word) (start .pre .0) in cc
+    word-is _ _ (start .pre .0) (c .before .before .before .word-at .ensures) (c .before .at .given .1)
 
 inside : (c : tie.After-known-told) → let start : tie.Start = search in
     c .before .at .given .0 .0 + start .args .byte + 1 ≤ length (now (start .args .file))
@@ -40,18 +39,12 @@ returns c =
 returns-2 : tie.Need-returns-2
 returns-2 c =
     let start : tie.Start = search in
-    let e = sym (c .enum-told .given .1) ∙ c .before .before .word-at .ensures .answer
-    ∙ word-found (now (start .args .file)) (start .args .word) (start .pre .0) in
-    let z : _≡_ {A = ℕ} 0 1 = cc in
-    absurd (omega arith)
+    absurd (word-no-packet _ _ (start .pre .0) (c .before .before .word-at .ensures) (c .enum-told .given .1))
 
 returns-3 : tie.Need-returns-3
 returns-3 c =
     let start : tie.Start = search in
-    let e = sym (c .enum-told2 .given .1) ∙ c .before .before .word-at .ensures .answer
-    ∙ word-found (now (start .args .file)) (start .args .word) (start .pre .0) in
-    let z : _≡_ {A = ℕ} 0 1 = cc in
-    absurd (omega arith)
+    absurd (word-no-end _ _ (start .pre .0) (c .before .before .word-at .ensures) (c .enum-told2 .given .1))
 
 pub byte-at-spec : {M : Type 1} → statement M
 byte-at-spec =

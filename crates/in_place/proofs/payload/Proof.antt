@@ -1,6 +1,7 @@
 -- `payload` meets its contract. The loop's invariant is that of the payload call on a tracker, of the tracker that the numbers are.
 -- Assumes nothing.
 use Prim.Native.Nat.{_-_}
+use denote.Ref.{now}
 use native.Mathlib.Omega.{arith}
 use lib.ListN.{length}
 use borrow.Author.Tests.{eq-eqb, ne-eqb}
@@ -43,22 +44,24 @@ pass-requires c κs =
     let k = c .before .before .loop .inv in let r = k .going .ready in
     (k .good, (r .within, omega (arith, r .whole, r .between)))
 
-slice-read-if4 : tie.Need-slice-read-if4 Inv-loop μ-loop
-slice-read-if4 c =
-    let after-pass : tie.After-pass Inv-loop μ-loop = search in
+-- The walk, where the quiet words were passed.
+walked : (c : tie.After-pass Inv-loop μ-loop) → let at-loop : tie.At-loop Inv-loop μ-loop = search in
+    let start : tie.Start Inv-loop μ-loop = search in
+    Walk (now (start .args .a)) (now (start .args .bytes)) (now (start .args .out)) (c .pass .last .0) (at-loop .loop .out)
+    (c .pass .result) (at-loop .loop .used)
+walked c =
     let at-loop : tie.At-loop Inv-loop μ-loop = search in
     let after-shared-slice-known : tie.After-shared-slice-known Inv-loop μ-loop = search in
-    let k = walk-passed (at-loop .loop .inv) (λ i. after-shared-slice-known .shared-slice-known .given i .fits)
-    (after-pass .pass .ensures) in
+    walk-passed (at-loop .loop .inv) (λ i. after-shared-slice-known .shared-slice-known .given i .fits) (c .pass .ensures)
+
+slice-read-if4 : tie.Need-slice-read-if4 Inv-loop μ-loop
+slice-read-if4 c =
+    let k = walked (search) in
     omega (arith, k .good .fits .long)
 
 returns-3 : tie.Need-returns-3 Inv-loop μ-loop
 returns-3 c =
-    let after-pass : tie.After-pass Inv-loop μ-loop = search in
-    let at-loop : tie.At-loop Inv-loop μ-loop = search in
-    let after-shared-slice-known : tie.After-shared-slice-known Inv-loop μ-loop = search in
-    let k = walk-passed (at-loop .loop .inv) (λ i. after-shared-slice-known .shared-slice-known .given i .fits)
-    (after-pass .pass .ensures) in
+    let k = walked (search) in
     payload-3 k (c .before .before .before .if3 .taken) (c .before .if4 .taken) (c .told3 .ensures)
 
 mul-step : tie.Need-mul-step Inv-loop μ-loop
@@ -80,11 +83,7 @@ part-step-start c =
 step-requires : tie.Need-step-requires Inv-loop μ-loop
 step-requires c κs =
     let then3 : tie.Then3 Inv-loop μ-loop = search in
-    let after-pass : tie.After-pass Inv-loop μ-loop = search in
-    let at-loop : tie.At-loop Inv-loop μ-loop = search in
-    let after-shared-slice-known : tie.After-shared-slice-known Inv-loop μ-loop = search in
-    let k = walk-passed (at-loop .loop .inv) (λ i. after-shared-slice-known .shared-slice-known .given i .fits)
-    (after-pass .pass .ensures) in
+    let k = walked (search) in
     (k .good, (c .before .before .if4 .left, word-left (k .going) (then3 .if3 .taken)))
 
 -- The length at the start, which the search does not reach by itself.
@@ -98,11 +97,7 @@ returns-4 c =
     let after-step : tie.After-step Inv-loop μ-loop = search in
     let else4 : tie.Else4 Inv-loop μ-loop = search in
     let then3 : tie.Then3 Inv-loop μ-loop = search in
-    let after-pass : tie.After-pass Inv-loop μ-loop = search in
-    let at-loop : tie.At-loop Inv-loop μ-loop = search in
-    let after-shared-slice-known : tie.After-shared-slice-known Inv-loop μ-loop = search in
-    let k = walk-passed (at-loop .loop .inv) (λ i. after-shared-slice-known .shared-slice-known .given i .fits)
-    (after-pass .pass .ensures) in
+    let k = walked (search) in
     payload-4 k (then3 .if3 .taken) (else4 .if4 .left)
     (of-answer (c .before .enum-told .given .1) (after-step .step .ensures)) (c .told4 .ensures)
 
@@ -111,11 +106,7 @@ loop-again c =
     let after-step : tie.After-step Inv-loop μ-loop = search in
     let else4 : tie.Else4 Inv-loop μ-loop = search in
     let then3 : tie.Then3 Inv-loop μ-loop = search in
-    let after-pass : tie.After-pass Inv-loop μ-loop = search in
-    let at-loop : tie.At-loop Inv-loop μ-loop = search in
-    let after-shared-slice-known : tie.After-shared-slice-known Inv-loop μ-loop = search in
-    let k = walk-passed (at-loop .loop .inv) (λ i. after-shared-slice-known .shared-slice-known .given i .fits)
-    (after-pass .pass .ensures) in
+    let k = walked (search) in
     walk-word k (then3 .if3 .taken) (else4 .if4 .left) (of-answer (c .before .n .given .1) (after-step .step .ensures))
     (after-step .step .kept .1 .1 .1 .0)
 
@@ -148,11 +139,7 @@ loop-less-2 c =
     omega (arith, c .if3 .left, in-loop .loop-test .taken)
 
 loop-again-2 : tie.Need-loop-again-2 Inv-loop μ-loop
-loop-again-2 c =
-    let at-loop : tie.At-loop Inv-loop μ-loop = search in
-    let after-shared-slice-known : tie.After-shared-slice-known Inv-loop μ-loop = search in
-    walk-passed (at-loop .loop .inv) (λ i. after-shared-slice-known .shared-slice-known .given i .fits)
-    (c .before .before .before .pass .ensures)
+loop-again-2 c = walked (search)
 
 returns-5 : tie.Need-returns-5 Inv-loop μ-loop
 returns-5 c = payload-0 (c .before .before .loop .inv) (c .before .loop-test .left) (c .told5 .ensures)
