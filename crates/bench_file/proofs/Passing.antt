@@ -112,8 +112,8 @@ module _ (name : Name) (Says : FileReader → Found → Type 0) where
         (Next 𝓤 H A mem run .pre (to-next r u))
     goes-next r u =
         qed W (‵ (held.B (κ, tt) .own r (u ∷ [])) ∷ (‵ (flft κ q) ⊛ ‵ ftrue) ∷ []) ∵ nothing ! $ move ! (1 ∷ 0 ∷ []) $
-        fjoin ! $ move !
-        (1 ∷ 0 ∷ []) $ join ! $ frame ! $ done !
+        fjoin ! $
+        move ! (1 ∷ 0 ∷ []) $ join ! $ frame ! $ done !
 
     next-said : (r : FileReader) (t : Found)
         → ent 𝓤 (ensured 𝓤 H A over.ended (over-clauses 𝓤) (κ, tt) (r, tt) tt t) (fact 𝓤 (Says r t))

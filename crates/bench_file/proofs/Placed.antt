@@ -119,8 +119,8 @@ module _ (name : Name) (moved : FileReader → FileReader) (cursor : FileReader 
         (Move 𝓤 H A mem run .pre (to-move r u))
     goes-move r u =
         qed W (‵ (held.B (κ, tt) .own r (u ∷ [])) ∷ (‵ (flft κ q) ⊛ ‵ ftrue) ∷ []) ∵ nothing ! $ move ! (1 ∷ 0 ∷ []) $
-        fjoin ! $ move !
-        (1 ∷ 0 ∷ []) $ join ! $ frame ! $ done !
+        fjoin ! $
+        move ! (1 ∷ 0 ∷ []) $ join ! $ frame ! $ done !
 
     move-said : (r t : FileReader) → ent 𝓤 (ensured 𝓤 H A over.ended (over-clauses 𝓤) (κ, tt) (r, tt) tt t)
         (fact 𝓤 (t ≡ moved r))
