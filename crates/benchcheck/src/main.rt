@@ -1,23 +1,35 @@
 // benchcheck: reads a bench file on standard input and prints its records. Document 01, "Bench file".
 // Its buffers, with the 4,096 bytes of io::write_all, are together below 65,536 bytes.
+ghost use Prim.Native.Nat.{_≤_};
+ghost use lib.ListN.{length};
+ghost use Rattle.report.specs.Text.{mostPrinted};
 use libc::STDERR_FILENO;
 use libc::STDIN_FILENO;
 use libc::STDOUT_FILENO;
 use report::Report;
 
-// Prints the report of a file, up to a write that fails.
-fn print(file: &[u8]) {
-    let mut out = [0u8; report::MOST_PRINTED];
+// Bytes that are gathered before they are written: the lines of a word, and of some before it.
+const OUT: usize = 1200;
+
+// Prints the report of a file, up to a write that fails. Lines are gathered in out, and written where those of one more word might find no room.
+fn print(file: &[u8], out: &mut [u8])
+    requires { ⌜ mostPrinted ≤ length (now out) ⌝ }
+{
     let mut report = Report::start(file);
+    let mut used: usize = 0;
     while !report.finished() {
-        let filled = report.step(file, &mut out);
-        let n = filled.n;
-        if !io::write_all(STDOUT_FILENO, &out[..n]) {
-            return;
+        if out.len() - used < report::MOST_PRINTED {
+            if !io::write_all(STDOUT_FILENO, &out[..used]) {
+                return;
+            }
+            used = 0;
         }
+        let filled = report.step(file, &mut out[used..]);
+        used = used + filled.n;
         let next = filled.report;
         report = next;
     }
+    io::write_all(STDOUT_FILENO, &out[..used]);
 }
 
 fn main() {
@@ -32,5 +44,6 @@ fn main() {
         return;
     }
     let n = got.n;
-    print(&buf[..n]);
+    let mut out = [0u8; OUT];
+    print(&buf[..n], &mut out);
 }

@@ -1,10 +1,16 @@
 // compare: reads the bench files first.bench and second.bench of its folder and prints where they differ. Document 02, ticket 5.
 // Its buffers, with the 4,096 bytes that io::write_all or os::open_read takes, are together below 65,536 bytes.
+ghost use Prim.Native.Nat.{_≤_};
+ghost use lib.ListN.{length};
 ghost use Rattle.io.specs.Counts.{Counts};
+ghost use Rattle.comparison.specs.Text.{mostPrinted};
 use comparison::Listing;
 use input::Got;
 use libc::STDERR_FILENO;
 use libc::STDOUT_FILENO;
+
+// Bytes that are gathered before they are written.
+const OUT: usize = 1200;
 
 // A file by its name, at the front of a buffer.
 fn read_file(name: &[u8], buf: &mut [u8]) -> Got
@@ -25,19 +31,25 @@ fn say_unread(name: &[u8]) {
     io::write_all(STDERR_FILENO, b" cannot be read\n");
 }
 
-// Prints the listing of two files, up to a write that fails.
-fn print(a: &[u8], b: &[u8]) {
-    let mut out = [0u8; comparison::MOST_PRINTED];
+// Prints the listing of two files, up to a write that fails. Lines are gathered in out, and written where one more might find no room.
+fn print(a: &[u8], b: &[u8], out: &mut [u8])
+    requires { ⌜ mostPrinted ≤ length (now out) ⌝ }
+{
     let mut listing = Listing::start(a, b);
+    let mut used: usize = 0;
     while !listing.finished() {
-        let filled = listing.step(a, b, &mut out);
-        let n = filled.n;
-        if !io::write_all(STDOUT_FILENO, &out[..n]) {
-            return;
+        if out.len() - used < comparison::MOST_PRINTED {
+            if !io::write_all(STDOUT_FILENO, &out[..used]) {
+                return;
+            }
+            used = 0;
         }
+        let filled = listing.step(a, b, &mut out[used..]);
+        used = used + filled.n;
         let next = filled.listing;
         listing = next;
     }
+    io::write_all(STDOUT_FILENO, &out[..used]);
 }
 
 fn main() {
@@ -56,5 +68,6 @@ fn main() {
     }
     let n = first.n;
     let m = second.n;
-    print(&a[..n], &b[..m]);
+    let mut out = [0u8; OUT];
+    print(&a[..n], &b[..m], &mut out);
 }
