@@ -9,7 +9,7 @@ use libc::STDOUT_FILENO;
 use report::Report;
 
 // Bytes that are gathered before they are written: the lines of a word, and of some before it.
-const OUT: usize = 1200;
+const OUT: usize = 1000;
 
 // Prints the report of a file, up to a write that fails. Lines are gathered in out, and written where those of one more word might find no room.
 fn print(file: &[u8], out: &mut [u8])

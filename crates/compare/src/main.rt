@@ -10,7 +10,7 @@ use libc::STDERR_FILENO;
 use libc::STDOUT_FILENO;
 
 // Bytes that are gathered before they are written.
-const OUT: usize = 1200;
+const OUT: usize = 1000;
 
 // A file by its name, at the front of a buffer.
 fn read_file(name: &[u8], buf: &mut [u8]) -> Got
