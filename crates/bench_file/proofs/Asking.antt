@@ -140,8 +140,7 @@ module _ (name : Name) (Says : List ℕ → ℕ → Found → Type 0) (cursor : 
           (from ! (stop !)) (init ! 0 refl (subst (λ (z : Val). Holds (hasTy (tyInt w64) z) × WT z) (sym (value-is d)) (
             tt,
             record {
-              fits =
-                  low d (wt .1);
+              fits = low d (wt .1);
             },
           ))) $
           rewrite ! 0 (λ (z : Val). ‵ (fat fullShare (tyInt w64) l₃ 0 z)) (value-is d) refl $

@@ -144,8 +144,7 @@ module _ (name : Name) (Says : FileReader → Found → Type 0) where
           pass1 ! (init ! 4 refl (
             tt,
             record {
-              fits =
-                  ok;
+              fits = ok;
             },
           )) $ pass1 ! (init ! 2 refl (tt, record { fits = ok2 })) $ pass0 ! $
           move ! (10 ∷ []) $ use1 W (raw (made.New 𝓤 H A mem run .pre to-new) ⊛ ‵ Own)

@@ -56,8 +56,8 @@ unfolding begun settings packet wholeCase tells told number wordOf bits given pa
 whole-answers = refl
 
 -- The same as benchcheck prints it.
-pub whole-text : text wholeCase ≡ ascii
-    "pos code first second\n84 1072 1 1\n104 440 3564 198\n104 1045 3564 198\nrecords 3\n"
+pub whole-text : text wholeCase
+    ≡ ascii "pos code first second\n84 1072 1 1\n104 440 3564 198\n104 1045 3564 198\nrecords 3\n"
 unfolding wholeCase number wordOf bits given packetCall
     recordsOf takenOf wordCall numberAt wordsBefore misfit firstRefusal checkOf wordItems packetItems items decimalIn
     decimal line lines heading recordsLine refusedLine recordsFrom fileRecords text

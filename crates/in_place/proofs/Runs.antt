@@ -82,8 +82,7 @@ module _ (b : List ℕ) (byte : (i : ℕ) → getD b i 0 < 256) where
       (λ i h. further i ∙ each (suc i) (omega arith)))
       ∙ preceded-twice 1 (suc n) [] [] (wordsFrom m (quietNext u (suc n)) (drop (at + 10 + 10 * suc n) b) places)
       ∙ (λ i. preceded (1 + suc n) [] (wordsFrom m (record {
-        settings =
-            t .settings;
+        settings = t .settings;
         accepted = t .accepted;
         packet = t .packet;
         at = record { fsm = t .at .fsm; count = many i; seen = true };

@@ -106,22 +106,21 @@ module _ (a : List ℕ) (w : Word) where
 
 -- The same, with what the code computed on the way.
 pub as-stored : (t : Tracker) {a : Advanced} {w v : Word} {l : List ℕ} → a ≡ takenAs t w → w ≡ v
-    → l ≡ encodeOf (nextTracker t a w) → l
-    ≡ encodeOf (nextTracker t (takenAs t v) v)
+    → l ≡ encodeOf (nextTracker t a w)
+    → l ≡ encodeOf (nextTracker t (takenAs t v) v)
 as-stored t {a} {w} p q e =
     e ∙ (λ i. encodeOf (nextTracker t (p i) w)) ∙ (λ i. encodeOf (nextTracker t (takenAs t (q i)) (q i)))
 
 pub told-is : (t : Tracker) {a : Advanced} {w v : Word} {here n lanes : ℕ} {old : Frame} {frame : FrameTold}
-    → a ≡ takenAs t w → w ≡ v → here
-    ≡ positionNow t → old ≡ t .frame
+    → a ≡ takenAs t w → w ≡ v
+    → here ≡ positionNow t → old ≡ t .frame
     → frame ≡ frameTold (t .settings .frames) (a .word) w here old → lanes ≡ lanesTold (a .word) w
     → T.Taken (record { kind = a .word; guessed = a .guessed; records = n; frame = frame; lanes = lanes }) ≡ takenAnswer
     t (takenAs t v) v n .told
 told-is t {a} {w} {v} {here} {n} p q h o f l =
     (λ i. T.Taken (record { kind = a .word; guessed = a .guessed; records = n; frame = f i; lanes = l i }))
     ∙ (λ i. T.Taken (record {
-      kind =
-          a .word;
+      kind = a .word;
       guessed = a .guessed;
       records = n;
       frame = frameTold (t .settings .frames) (a .word) w (h i) (o i);

@@ -41,8 +41,7 @@ module _ (t : Tracker) (s : State) (w : Word) where
   abbrev with : Bool → Stored → Frame → List ℕ
   with seen stored frame =
       encodeOf (record {
-        settings =
-            t .settings;
+        settings = t .settings;
         accepted = t .accepted;
         packet = t .packet;
         at = record { fsm = record { state = s }; count = t .at .count + 1; seen = seen };
@@ -117,10 +116,10 @@ module _ (t : Tracker) (s : State) (w : Word) where
 
 -- What the code stores for a TDH, one part after the other.
 pub tdh-stored : (w : Word) (l : List ℕ) (here : ℕ) {bc orbit : ℕ} {internal opens : Bool} {first second last : List ℕ}
-    → bc ≡ triggerBc w → orbit
-    ≡ triggerOrbit w → internal ≡ eqb (internalTrigger w) 1
-    → opens ≡ (isOn (place l P.frames) && (not (isOn (place l P.opened)) && eqb (continuation w) 0)) → first
-    ≡ sets l P.tdh (1 ∷ triggerType w ∷ triggerBc w ∷ triggerOrbit w ∷ [])
+    → bc ≡ triggerBc w
+    → orbit ≡ triggerOrbit w → internal ≡ eqb (internalTrigger w) 1
+    → opens ≡ (isOn (place l P.frames) && (not (isOn (place l P.opened)) && eqb (continuation w) 0))
+    → first ≡ sets l P.tdh (1 ∷ triggerType w ∷ triggerBc w ∷ triggerOrbit w ∷ [])
     → second ≡ putIf internal P.internal (1 ∷ bc ∷ orbit ∷ []) first → last ≡ putIf opens P.frame (1 ∷ here ∷ []) second
     → last ≡ tdhStores w here l
 tdh-stored w l here b m n o p q r =
@@ -146,11 +145,11 @@ good-next l a w h =
 
 -- The same, with what the code stored on the way.
 pub by-stores : (l : List ℕ) (a : Advanced) (w : Word) (kind : ItsPayloadWord) {here : ℕ} {first last : List ℕ}
-    → GoodArray l → here
-    ≡ positionNow (trackerIn l) → a .word ≡ kind
+    → GoodArray l
+    → here ≡ positionNow (trackerIn l) → a .word ≡ kind
     → first ≡ sets l P.reached (stateNumber (a .fsm .state) ∷ (place l P.count + 1) ∷ [])
-    → last ≡ storesOf kind w here first → last
-    ≡ encodeOf (nextTracker (trackerIn l) a w)
+    → last ≡ storesOf kind w here first
+    → last ≡ encodeOf (nextTracker (trackerIn l) a w)
 by-stores l a w kind h p e q r = r ∙ (λ i. storesOf (sym e i) w (p i) (q i)) ∙ good-next l a w h
 
 -- A packet that is accepted, and a reset.

@@ -82,13 +82,13 @@ module _ {a₀ b out₀ : List ℕ} where
       → PayloadInPlace a₀ b out₀ r a₀ out₀
   payload-1 h e p = told-it p h (refused-1 (h .is .good) e)
 
-  pub payload-2 : {r : PayloadTold} → GoodArray a₀ → length b % 10 ≡ 0 → isOn (place a₀ P.accepted) ≡ false → r
-      ≡ record { words = 0; records = 0; refusal = 2 } → PayloadInPlace a₀ b out₀ r a₀ out₀
+  pub payload-2 : {r : PayloadTold} → GoodArray a₀ → length b % 10 ≡ 0 → isOn (place a₀ P.accepted) ≡ false
+      → r ≡ record { words = 0; records = 0; refusal = 2 } → PayloadInPlace a₀ b out₀ r a₀ out₀
   payload-2 h whole e p = told-it p h (refused-2 (h .is .good) whole e)
 
   module _ {a out : List ℕ} {at used : ℕ} (k : Walk a₀ b out₀ a out at used) where
-    pub payload-0 : {r : PayloadTold} → length
-        b ≤ at → r ≡ record { words = at / 10; records = used / recordWidth; refusal = 0 }
+    pub payload-0 : {r : PayloadTold} → length b ≤ at
+        → r ≡ record { words = at / 10; records = used / recordWidth; refusal = 0 }
         → PayloadInPlace a₀ b out₀ r a out
     payload-0 past p = told-it p (k .good) (ended (k .going) past)
 
@@ -174,8 +174,8 @@ module _ {a₀ b out₀ : List ℕ} where
             (Loop.next (k .going) lt (on-part (took a bytes tail (k .good) ten (k .going .ready .accepted) low s)) kept
             refl)
 
-        pub payload-4 : {r : PayloadTold} → StepInPlace a (wordOf bytes) tail NoRoom l y → r
-            ≡ record { words = at / 10; records = used / recordWidth; refusal = 4 }
+        pub payload-4 : {r : PayloadTold} → StepInPlace a (wordOf bytes) tail NoRoom l y
+            → r ≡ record { words = at / 10; records = used / recordWidth; refusal = 4 }
             → PayloadInPlace a₀ b out₀ r l (putMid used (length out - used) out y)
         payload-4 {r} s p =
             let same = denied-numbers a bytes tail (k .good) ten (k .going .ready .accepted) low s in

@@ -58,8 +58,8 @@ module _ (a : List ℕ) (s : Asked) where
     settings-fit e = period-fits s (sym asked ∙ not-false r e)
 
     pub start-done : {t : Tracker} {n : ℕ} {rule : Rule} {after : List ℕ} → not r ≡ false
-        → n ≡ cond (isOn (s .periodic)) (s .period) 0 → rule
-        ≡ ruleOf (s .rule)
+        → n ≡ cond (isOn (s .periodic)) (s .period) 0
+        → rule ≡ ruleOf (s .rule)
         → t ≡ startOf (record { running = isOn (s .running); frames = isOn (s .frames); periodic = isOn (s .periodic); period = n; rule = rule })
         → after ≡ writtenTo a t → StartOn a s 0 after
     start-done {t} {n} e k j p q =

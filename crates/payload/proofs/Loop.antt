@@ -108,8 +108,8 @@ module _ {t : Tracker} {b out₀ : List ℕ} where
 
     -- Words taken from here on, with their records: the invariant after them.
     further : {out′ : List ℕ} {u : Tracker} {to used′ : ℕ} (k : ℕ) (new : List Record) → Ready u b to
-        → at / 10 + k ≡ to / 10 → used′
-        ≡ used + recordWidth * length new
+        → at / 10 + k ≡ to / 10
+        → used′ ≡ used + recordWidth * length new
         → out′ ≡ over (flat (g .rs ++ new)) out₀ → length out′ ≡ length out
         → runFrom b places cur at ≡ preceded k new (runFrom b (places - length new) u to)
         → Going t b out₀ out′ u to used′

@@ -78,7 +78,6 @@ pub never-refused : (file : List ℕ) → checkOf file ≡ 0 → AllAccepted (st
 unfolding held
 never-refused file e =
     all-accepted (held file) (sound file e) (reader-gives (held file) e) (at-start file) (startOf settings) (record {
-      accepted =
-          λ h. absurd (omega arith);
+      accepted = λ h. absurd (omega arith);
       room = omega arith;
     })

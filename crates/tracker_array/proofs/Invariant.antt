@@ -40,8 +40,7 @@ tdh-is h =
       λ (trigger, (bc, (orbit, zero))). (
         orbit,
         record {
-          trigger =
-              trigger;
+          trigger = trigger;
           bc = bc;
           absent = λ o j. record { present = o j; trigger = zero o .0 j; bc = zero o .1 .0 j; orbit = zero o .1 .1 j };
         },

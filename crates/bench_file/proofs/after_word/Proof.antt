@@ -105,8 +105,7 @@ module _ {M : Type 1} (𝓤 : URA M) (H : Heap 𝓤) (A : Atoms 𝓤) (W : Given
             wt .1 .1 .0,
             (
               record {
-                fits =
-                    is .1;
+                fits = is .1;
               },
               tt,
             ),

@@ -97,8 +97,7 @@ module _ {M : Type 1} (𝓤 : URA M) (H : Heap 𝓤) (A : Atoms 𝓤) (W : Given
         pass1 ! (init ! 2 refl (
           tt,
           record {
-            fits =
-                ok;
+            fits = ok;
           },
         )) $ pass1 ! (init ! 0 refl (tt, record { fits = ok2 })) $ pass0 ! $
         assigns ! (agg ! (and-then ! (load ! (from ! (stop !)) (look ! 4 refl))
@@ -109,8 +108,7 @@ module _ {M : Type 1} (𝓤 : URA M) (H : Heap 𝓤) (A : Atoms 𝓤) (W : Given
             shr-slice-lawful 𝓤 H A W (named 0) κ u8 .typed s (v ∷ []) p .0 .1,
             (
               record {
-                fits =
-                    ok;
+                fits = ok;
               },
               (record { fits = ok2 }, tt),
             ),

@@ -20,8 +20,7 @@ period-of-requires c κs =
     let start : tie.Start = search in
     let s = start .args in
     settings-fit (now (s .tracker)) (record {
-      running =
-          s .running;
+      running = s .running;
       frames = s .frames;
       periodic = s .periodic;
       period = s .period;
