@@ -24,7 +24,7 @@ def functions(text):
             at += 1
         parameters, rest = text[m.end():at - 1], text[at:]
         head = rest[:re.search(r'^ *\{$', rest, re.M).start()]
-        ensures = [e.strip() for e in re.findall(r'ensures \{ λ [^.]*\. ⌜ (.*?) ⌝ \}', head)]
+        ensures = [' '.join(e.split()) for e in re.findall(r'ensures \{ λ [^.]*\. ⌜ (.*?) ⌝ \}', head, re.S)]
         names = re.findall(r'ensures \{ λ (\S+)\. ', head)
         yield m.group(1), parameters, '->' in head.split('requires')[0].split('ensures')[0], list(zip(names, ensures))
 

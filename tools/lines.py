@@ -1,9 +1,9 @@
 #!/usr/bin/env python3
-"""lines.py: definitions and proofs can be read without scrolling, and a fact is asked for at a place that has a name.
+"""lines.py: sources, definitions and proofs can be read without scrolling, and a fact is asked for at a place that has a name.
 
     tools/lines.py
 
-No line of an .antt file has more than 160 characters, and none goes more than three steps back along the code (`.before`): a place that is further away is
+No line below crates/ of an .rt or .antt file has more than 160 characters, and none goes more than three steps back along the code (`.before`): a place that is further away is
 asked for by its type, as in `let start : tie.Start = search in`. Prints each line that does, and ends with exit status 1.
 """
 import os
@@ -22,7 +22,7 @@ def main():
     crates = os.path.join(TOP, 'crates')
     files = bad = 0
     for folder, _, names in sorted(os.walk(crates)):
-        for name in sorted(n for n in names if n.endswith('.antt')):
+        for name in sorted(n for n in names if n.endswith(('.antt', '.rt'))):
             full = os.path.join(folder, name)
             files += 1
             with open(full, encoding='utf-8') as f:
@@ -36,7 +36,7 @@ def main():
                         bad += 1
                         print(f'lines: {os.path.relpath(full, TOP)}:{number} {" and ".join(why)}')
     if not files:
-        sys.exit('lines: no .antt file below crates/')
+        sys.exit('lines: no file below crates/')
     print(f'lines: {files} files, {bad} lines too long or too far back')
     sys.exit(1 if bad else 0)
 

@@ -85,7 +85,8 @@ fn put_numbers(out: &mut [u8], numbers: &[u64]) -> usize
 
 // A line: a name, and each number behind a space.
 pub fn put_line(out: &mut [u8], name: &[u8], numbers: &[u64]) -> usize
-    ensures { λ r. ⌜ Puts (inRoom (mostLine (now (name .entry)) (now (numbers .entry))) (length (now (out .entry))) (line (now (name .entry)) (now (numbers .entry)))) (now (out .entry)) r (now (out .exit)) ⌝ }
+    ensures { λ r. ⌜ Puts (inRoom (mostLine (now (name .entry)) (now (numbers .entry))) (length (now (out .entry)))
+        (line (now (name .entry)) (now (numbers .entry)))) (now (out .entry)) r (now (out .exit)) ⌝ }
 {
     if out.len() < name.len() + 1 {
         return 0;

@@ -3,8 +3,10 @@
 ghost use mathlib.Core.Path.{_≡_};
 ghost use Prim.Native.Nat.{_+_, _<_, _≤_, _^_};
 ghost use lib.ListN.{length};
-ghost use Rattle.bench_file.specs.File.{headerBytes, packetBytes, packetPlace, packetOf, wordsBefore, misfit, refusalBy, packetRefusal, firstRefusal, checkOf};
-ghost use Rattle.bench_file.specs.Reader.{readerAt, headerNumber, hasPacket, hasWord, pastPacket, pastWord, afterPacket, afterWord, NextPacketPost, NextWordPost, NextPost};
+ghost use Rattle.bench_file.specs.File.{headerBytes, packetBytes, packetPlace, packetOf, wordsBefore, misfit, refusalBy, packetRefusal};
+ghost use Rattle.bench_file.specs.File.{firstRefusal, checkOf};
+ghost use Rattle.bench_file.specs.Reader.{readerAt, headerNumber, hasPacket, hasWord, pastPacket, pastWord, afterPacket, afterWord};
+ghost use Rattle.bench_file.specs.Reader.{NextPacketPost, NextWordPost, NextPost};
 use packet::MAX_WORDS;
 use packet::Packet;
 use packet::REFUSED_COUNTS;

@@ -137,9 +137,9 @@ module _ (a b : List ℕ) where
           less = λ _. o .less (l .count);
         })
 
-    moved : (ps : List Place) → Low l → Onward ps → restOf l ≡ listed ps (l .count)
+    next-stage : (ps : List Place) → Low l → Onward ps → restOf l ≡ listed ps (l .count)
         → Moved l (nothing (next (l .count)))
-    moved ps low o e =
+    next-stage ps low o e =
         record {
           good = record { at = o .good (l .count); low = omega (arith, o .less (l .count)) };
           front = o .rest (l .count) ∙ sym e;
@@ -162,7 +162,7 @@ module _ (a b : List ℕ) where
       (rw (each-more (common a b) (l .packet) (λ (p : ℕ). countPlace a b p ∷ []) h)))
       (λ t.
       let h = ltb-false _ _ t in
-      moved (atStage S.Counts l) S.Packet 0 0 0 0 (allPackets) low
+      next-stage (atStage S.Counts l) S.Packet 0 0 0 0 (allPackets) low
       (record {
         rest = λ count. rw sub-zero;
         good = λ count. start-packet (g .both);
@@ -180,7 +180,7 @@ module _ (a b : List ℕ) where
       by-test (Moved (atStage S.Packet l)) (ltb (l .packet) (common a b)) _ _
       (λ t.
       let h = ltb-true _ _ t in
-      moved (atStage S.Packet l) S.Fields (l .packet) 0 (l .first) (l .second)
+      next-stage (atStage S.Packet l) S.Fields (l .packet) 0 (l .first) (l .second)
       (eachOne 7 0 (fieldPlace a b (l .packet)) ++ (rowOf (l .packet) ++ packetsFrom (l .packet + 1))) low
       (record {
         rest = λ count. refl;
@@ -191,7 +191,7 @@ module _ (a b : List ℕ) where
       (rw (packets-more (l .packet) h)))
       (λ t.
       let h = ltb-false _ _ t in
-      moved (atStage S.Packet l) S.Last 0 0 0 0 [] low
+      next-stage (atStage S.Packet l) S.Last 0 0 0 0 [] low
       (record { rest = λ count. refl; good = λ count. tt; less = λ count. omega arith })
       (rw (packets-none (l .packet) h)))
 
@@ -219,7 +219,7 @@ module _ (a b : List ℕ) where
       (rw (each-more 7 (l .part) (λ (i : ℕ). fieldPlace a b (l .packet) i ∷ []) h)))
       (λ t.
       let h = ltb-false _ _ t in
-      moved (atStage S.Fields l) S.Bytes (l .packet) 0 (l .first) (l .second)
+      next-stage (atStage S.Fields l) S.Bytes (l .packet) 0 (l .first) (l .second)
       (rowOf (l .packet) ++ packetsFrom (l .packet + 1)) low
       (record {
         rest = λ count. rw sub-zero;
@@ -260,7 +260,7 @@ module _ (a b : List ℕ) where
       (rw (each-more (10 * commonWords a b (l .packet)) (l .part) (λ (j : ℕ). rowPlace (l .packet) j ∷ []) h)))
       (λ t.
       let h = ltb-false _ _ t in
-      moved (atStage S.Bytes l) S.Packet (l .packet + 1) 0 (l .first + countAt a (l .packet))
+      next-stage (atStage S.Bytes l) S.Packet (l .packet + 1) 0 (l .first + countAt a (l .packet))
       (l .second + countAt b (l .packet)) (packetsFrom (l .packet + 1)) low
       (record {
         rest = λ count. refl;

@@ -10,7 +10,8 @@ ghost use Rattle.bench_file.specs.Reader.{hasPacket, hasWord};
 ghost use Rattle.ascii.specs.Steps.{Prints, StepPost};
 ghost use Rattle.comparison.specs.Compare.{refusalOf, common, fieldOf};
 ghost use Rattle.comparison.specs.Text.{mostPrinted};
-ghost use Rattle.comparison.specs.Listing.{firstStage, isDone, startListing, doneListing, tell, packetsStep, wordsStep, countsStep, packetStep, fieldsStep, bytesStep, stepOf, Both, AtCount, AtPacket, AtField, AtByte, Good, printer};
+ghost use Rattle.comparison.specs.Listing.{firstStage, isDone, startListing, doneListing, tell, packetsStep, wordsStep, countsStep, packetStep};
+ghost use Rattle.comparison.specs.Listing.{fieldsStep, bytesStep, stepOf, Both, AtCount, AtPacket, AtField, AtByte, Good, printer};
 
 mod text;
 

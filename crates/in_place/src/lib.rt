@@ -52,7 +52,8 @@ pub fn packet(
     format: u64,
 ) -> u8
     requires { ⌜ GoodArray (now a) ⌝ }
-    ensures { λ r. ⌜ PacketInPlace (now (a .entry)) (record { position = position; orbit = orbit; trigger = trigger; bc = bc; page = page; stop = stop; format = format }) r (now (a .exit)) ⌝ }
+    ensures { λ r. ⌜ PacketInPlace (now (a .entry))
+        (record { position = position; orbit = orbit; trigger = trigger; bc = bc; page = page; stop = stop; format = format }) r (now (a .exit)) ⌝ }
 {
     if !packet::are_in_range(position, orbit, trigger, bc, page, stop, format) {
         return packet::REFUSED_PACKET;

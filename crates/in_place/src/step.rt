@@ -42,7 +42,8 @@ pub(crate) fn step(a: &mut [u64], bytes: &[u8], at: usize, out: &mut [u64]) -> W
     requires { ⌜ GoodArray (now a) ⌝ }
     requires { ⌜ place (now a) P.count < maxWords ⌝ }
     requires { ⌜ at + wordBytes ≤ length (now bytes) ⌝ }
-    ensures { λ r. ⌜ StepInPlace (now (a .entry)) (wordOf (take wordBytes (drop at (now (bytes .entry))))) (now (out .entry)) r (now (a .exit)) (now (out .exit)) ⌝ }
+    ensures { λ r. ⌜ StepInPlace (now (a .entry)) (wordOf (take wordBytes (drop at (now (bytes .entry)))))
+        (now (out .entry)) r (now (a .exit)) (now (out .exit)) ⌝ }
 {
     let word = Word::load_at(bytes, at);
     let taken = taken_as(a, word);

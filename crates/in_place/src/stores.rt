@@ -153,7 +153,8 @@ pub(crate) fn packet(
     format: u64,
 )
     requires { ⌜ GoodArray (now a) ⌝ }
-    ensures { λ _. ⌜ now (a .exit) ≡ encodeOf (acceptOf (trackerIn (now (a .entry))) (record { position = position; orbit = orbit; trigger = trigger; bc = bc; page = page; stop = stop; format = format })) ⌝ }
+    ensures { λ _. ⌜ now (a .exit) ≡ encodeOf (acceptOf (trackerIn (now (a .entry)))
+        (record { position = position; orbit = orbit; trigger = trigger; bc = bc; page = page; stop = stop; format = format })) ⌝ }
 {
     a[place::ACCEPTED] = 1;
     a[place::POSITION] = position;

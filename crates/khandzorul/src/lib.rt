@@ -73,7 +73,8 @@ pub extern "C" fn khz_start(
     period: u64,
     rule: u64,
 ) -> u64
-    ensures { λ r. ⌜ StartOn (now (tracker .entry)) (record { running = running; frames = frames; periodic = periodic; period = period; rule = rule }) r (now (tracker .exit)) ⌝ }
+    ensures { λ r. ⌜ StartOn (now (tracker .entry))
+        (record { running = running; frames = frames; periodic = periodic; period = period; rule = rule }) r (now (tracker .exit)) ⌝ }
 {
     if tracker.len() != tracker_array::SIZE {
         return NO_TRACKER;
@@ -104,7 +105,8 @@ pub extern "C" fn khz_packet(
     stop: u64,
     format: u64,
 ) -> u64
-    ensures { λ r. ⌜ PacketOn (now (tracker .entry)) (record { position = position; orbit = orbit; trigger = trigger; bc = bc; page = page; stop = stop; format = format }) r (now (tracker .exit)) ⌝ }
+    ensures { λ r. ⌜ PacketOn (now (tracker .entry))
+        (record { position = position; orbit = orbit; trigger = trigger; bc = bc; page = page; stop = stop; format = format }) r (now (tracker .exit)) ⌝ }
 {
     if !tracker_array::is_tracker(tracker) {
         return NO_TRACKER;

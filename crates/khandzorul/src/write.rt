@@ -51,7 +51,9 @@ pub extern "C" fn khz_write_tdt(
     packet_done: u64,
     word: &mut [u8],
 ) -> u64
-    ensures { λ r. ⌜ Writes (F.Tdt «lane_status» «timeout_to_start» «timeout_start_stop» «timeout_in_idle» «lane_starts_violation» «transmission_timeout» «packet_done») (now (word .entry)) r (now (word .exit)) ⌝ }
+    ensures { λ r. ⌜ Writes
+        (F.Tdt «lane_status» «timeout_to_start» «timeout_start_stop» «timeout_in_idle» «lane_starts_violation» «transmission_timeout» «packet_done»)
+        (now (word .entry)) r (now (word .exit)) ⌝ }
 {
     writer::write(
         Fields::Tdt {

@@ -110,7 +110,7 @@ pub fn in_range(packet: Packet) -> bool
     )
 }
 
-// From one word to the next.
+// Bytes from one word to the next.
 pub fn stride(format: u64) -> u64
     ensures { λ r. ⌜ r ≡ stride format ⌝ }
     ensures { λ r. ⌜ r ≤ 16 ⌝ }

@@ -71,13 +71,13 @@ module _ (bytes : RefT (List ℕ)) (s : Sound (now bytes)) where
       (w .0, all-accepted rest (rw less at (given .next)) (wordAnswer t (wordCall t (bytesAt (now bytes) at) mostRecords) .tracker) (w .1))
 
 -- Of every list of bytes there is a reader.
-held : List ℕ → RefT (List ℕ)
-held file = record { ptr = (0, 0); name = 0; now = file }
+lent : List ℕ → RefT (List ℕ)
+lent file = record { ptr = (0, 0); name = 0; now = file }
 
 pub never-refused : (file : List ℕ) → checkOf file ≡ 0 → AllAccepted (startOf settings) (items file)
-unfolding held
+unfolding lent
 never-refused file e =
-    all-accepted (held file) (sound file e) (reader-gives (held file) e) (at-start file) (startOf settings) (record {
+    all-accepted (lent file) (sound file e) (reader-gives (lent file) e) (at-start file) (startOf settings) (record {
       accepted = λ h. absurd (omega arith);
       room = omega arith;
     })

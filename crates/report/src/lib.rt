@@ -134,7 +134,8 @@ fn item_step(r: Report, file: &[u8], out: &mut [u8]) -> Filled
     requires { ⌜ Good (r .tracker) ⌝ }
     requires { ⌜ GoodReading (now file) r ⌝ }
     requires { ⌜ mostPrinted ≤ length (now out) ⌝ }
-    ensures { λ p. ⌜ Prints (itemStep (now (file .entry)) r (nextFound (now (file .entry)) (r .packet) (r .word) (r .left))) (now (out .entry)) (p .report) (p .n) (now (out .exit)) ⌝ }
+    ensures { λ p. ⌜ Prints (itemStep (now (file .entry)) r (nextFound (now (file .entry)) (r .packet) (r .word) (r .left)))
+        (now (out .entry)) (p .report) (p .n) (now (out .exit)) ⌝ }
 {
     match bench_file::next(file, r.packet, r.word, r.left) {
         Found::Packet { packet, words } => Filled {

@@ -34,10 +34,10 @@ in-two zero m i a = λ j. numbersFrom (zero-add m j) (sym (add-zero i) j) a
 in-two (suc n) m i a =
     (λ j. numbersFrom (suc-add n m j) i a)
     ∙ ap (λ (l : List ℕ). getD a i 0 ∷ l) (in-two n m (suc i) a
-    ∙ (λ j. numbersFrom n (suc i) a ++ numbersFrom m (moved j) a))
+    ∙ (λ j. numbersFrom n (suc i) a ++ numbersFrom m (one-on j) a))
   where
-    moved : suc i + n ≡ i + suc n
-    moved = omega arith
+    one-on : suc i + n ≡ i + suc n
+    one-on = omega arith
 
 -- Numbers that are 0.
 pub all-zero : (n i : ℕ) (a : List ℕ) → zerosFrom n i a ≡ true → numbersFrom n i a ≡ replicate n 0

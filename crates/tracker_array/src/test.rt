@@ -7,7 +7,9 @@ ghost use lib.ListN.{length};
 ghost use Rattle.packet.specs.Packet.{inRange, maxWords};
 ghost use Rattle.tracker_array.specs.Array.{size, isOn};
 ghost use Rattle.tracker_array.specs.Place as P;
-ghost use Rattle.tracker_array.specs.Read.{place, settingsIn, packetIn, ihwIn, tdhIn, internalIn, cdwIn, storedIn, frameIn, trackerIn, flagsFit, zerosFrom, inForm, settingsGood, ihwGood, tdhGood, internalGood, cdwGood, frameGood, storedGood, nothingMissing, isGood};
+ghost use Rattle.tracker_array.specs.Read.{place, settingsIn, packetIn, ihwIn, tdhIn, internalIn, cdwIn, storedIn, frameIn, trackerIn};
+ghost use Rattle.tracker_array.specs.Read.{flagsFit, zerosFrom, inForm, settingsGood, ihwGood, tdhGood, internalGood, cdwGood, frameGood};
+ghost use Rattle.tracker_array.specs.Read.{storedGood, nothingMissing, isGood};
 ghost use Rattle.tracker_array.specs.Good.{InForm};
 use crate::MARK;
 use crate::SIZE;
@@ -128,7 +130,8 @@ fn frame(a: &[u64]) -> bool
 // What came in: settings, packet and count.
 fn came_good(a: &[u64]) -> bool
     requires { ⌜ InForm (now a) ⌝ }
-    ensures { λ r. ⌜ r ≡ (settingsGood (settingsIn (now (a .entry))) && (inRange (packetIn (now (a .entry))) && leb (place (now (a .entry)) P.count) maxWords)) ⌝ }
+    ensures { λ r. ⌜ r ≡ (settingsGood (settingsIn (now (a .entry)))
+        && (inRange (packetIn (now (a .entry))) && leb (place (now (a .entry)) P.count) maxWords)) ⌝ }
 {
     if !settings(a) {
         return false;

@@ -276,13 +276,13 @@ fn replay(fd: i32) -> Tally {
         differ: 0,
     };
     for n in 0..MAX_CALLS {
-        let went = step(t, fd);
-        let after = went.tracker;
+        let replayed = step(t, fd);
+        let after = replayed.tracker;
         t = after;
-        y.sequences = y.sequences + one(went.start);
-        y.words = y.words + one(went.word);
-        y.differ = y.differ + one(went.differs);
-        if went.last {
+        y.sequences = y.sequences + one(replayed.start);
+        y.words = y.words + one(replayed.word);
+        y.differ = y.differ + one(replayed.differs);
+        if replayed.last {
             return y;
         }
     }

@@ -1,6 +1,7 @@
 // The TDH: trigger data header. 01, "Words"; the Rust's words/its/status_words/tdh.rs.
 ghost use mathlib.Core.Path.{_≡_};
-ghost use Rattle.words.specs.Tdh.{triggerType, internalTrigger, noData, continuation, triggerBc, triggerOrbit, reserved0, reserved1, reserved2, isReserved0};
+ghost use Rattle.words.specs.Tdh.{triggerType, internalTrigger, noData, continuation, triggerBc, triggerOrbit, reserved0, reserved1, reserved2};
+ghost use Rattle.words.specs.Tdh.{isReserved0};
 use crate::Word;
 
 pub struct Tdh {

@@ -1,6 +1,7 @@
 // The TDT: trigger data trailer. 01, "Words"; the Rust's words/its/status_words/tdt.rs.
 ghost use mathlib.Core.Path.{_≡_};
-ghost use Rattle.words.specs.Tdt.{laneStatus15to0, laneStatus23to16, laneStatus27to24, timeoutToStart, timeoutStartStop, timeoutInIdle, laneStartsViolation, transmissionTimeout, packetDone, reserved0, reserved1, reserved2, isReserved0};
+ghost use Rattle.words.specs.Tdt.{laneStatus15to0, laneStatus23to16, laneStatus27to24, timeoutToStart, timeoutStartStop, timeoutInIdle};
+ghost use Rattle.words.specs.Tdt.{laneStartsViolation, transmissionTimeout, packetDone, reserved0, reserved1, reserved2, isReserved0};
 use crate::Word;
 
 pub struct Tdt {
