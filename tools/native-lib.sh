@@ -9,7 +9,7 @@
 # --target T   compiles that module for a cross compiler's target, as thumbv7em-none-eabi or riscv64-unknown-elf: any little-endian one
 #              that the kit's clang knows (its --print-targets). Where pointers have 32 bits, lengths do too, as size_t has. No one vouches
 #              for that archive either, and nothing of it was run here: try it on the box, with tests/boundary.c
-# -Oz, -O2 ..  how that module is compiled, in place of -O3. -Oz is no shorter here: docs/LINKING.md has the sizes
+# -Oz, -O2 ..  how that module is compiled, in place of -O3. -Oz is shorter for few targets: docs/LINKING.md has the sizes
 # --unproved   proves nothing and takes a second, where a proof from nothing takes minutes: a module of NAME and all that it stands on comes
 #              from the step that `rt try` runs programs with, and its C entry points are added here (module.py). For tests alone
 #
