@@ -9,7 +9,8 @@
  * round the columns must give the same records, and the Rust as many.
  *
  * -DNO_KHZ: there is no archive. -DBEFORE: there is an older archive too, whose functions are renamed to before_..; it may give other records, since
- * a request may have changed a rule, and where it gives more or fewer that is printed.
+ * a request may have changed a rule, and where it gives more or fewer that is printed. What they are is not compared: up to KHZ_API 4 a record has four
+ * numbers, which find room where five are.
  */
 #define _POSIX_C_SOURCE 200809L
 #include "plain.h"

@@ -27,7 +27,7 @@ static uint64_t number(const uint8_t *p, int bytes)
     return n;
 }
 
-/* Takes the words of a packet and prints their records. Where the room is used up, prints what there is and hands in the rest. */
+/* Takes the words of a packet and prints their records, which packet first. Where the room is used up, prints what there is and hands in the rest. */
 static uint64_t take_words(uint64_t *tracker, const uint8_t *words, size_t bytes, uint64_t *given)
 {
     uint64_t records[ROOM * KHZ_RECORD_NUMBERS];
@@ -36,7 +36,7 @@ static uint64_t take_words(uint64_t *tracker, const uint8_t *words, size_t bytes
     do {
         a = khz_payload(tracker, KHZ_TRACKER_WORDS, words, bytes, records, ROOM * KHZ_RECORD_NUMBERS);
         for (const uint64_t *r = records; r < records + a.records * KHZ_RECORD_NUMBERS; r += KHZ_RECORD_NUMBERS)
-            printf("%" PRIu64 " %" PRIu64 " %" PRIu64 " %" PRIu64 "\n", r[0], r[1], r[2], r[3]);
+            printf("%" PRIu64 " %" PRIu64 " %" PRIu64 " %" PRIu64 " %" PRIu64 "\n", r[4], r[0], r[1], r[2], r[3]);
         *given += a.records;
         words += a.words * KHZ_WORD_BYTES;
         bytes -= a.words * KHZ_WORD_BYTES;
@@ -93,7 +93,7 @@ int main(int argc, char **argv)
     }
     refusal = khz_check_file(file, bytes);
     if (refusal == KHZ_DONE) {
-        puts("pos code first second");
+        puts("packet pos code first second");
         refusal = take_packets(file, &given);
     }
     if (refusal == KHZ_DONE)

@@ -45,14 +45,14 @@ fn number(bytes: &[u8]) -> u64 {
     bytes.iter().rev().fold(0, |n, b| n << 8 | u64::from(*b))
 }
 
-/// Takes the words of a packet and prints their records. Where the room is used up, prints what there is and hands in the rest.
+/// Takes the words of a packet and prints their records, which packet first. Where the room is used up, prints what there is and hands in the rest.
 fn take_words(tracker: &mut Tracker, mut words: &[u8], out: &mut impl Write) -> Result<usize, Stopped> {
     let mut records = [0; RECORDS_PER_WORD * RECORD_NUMBERS];
     let mut given = 0;
     loop {
         let a = tracker.payload(words, &mut records);
         for r in records.chunks(RECORD_NUMBERS).take(a.records) {
-            writeln!(out, "{} {} {} {}", r[0], r[1], r[2], r[3])?;
+            writeln!(out, "{} {} {} {} {}", r[4], r[0], r[1], r[2], r[3])?;
         }
         given += a.records;
         match a.refused {
@@ -87,7 +87,7 @@ fn take_packets(file: &[u8], out: &mut impl Write) -> Result<usize, Stopped> {
 
 fn check(file: &[u8], out: &mut impl Write) -> Result<usize, Stopped> {
     khandzorul::check_file(file)?;
-    writeln!(out, "pos code first second")?;
+    writeln!(out, "packet pos code first second")?;
     let given = take_packets(file, out)?;
     writeln!(out, "records {given}")?;
     out.flush()?;

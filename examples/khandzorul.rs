@@ -11,11 +11,12 @@ pub const WORD_BYTES: usize = 10;
 pub const DATA_BYTES: usize = 9;
 pub const LANES: u64 = 28;
 pub const PACKET_WORDS: usize = 4096;
-pub const RECORD_NUMBERS: usize = 4;
+pub const RECORD_NUMBERS: usize = 5; // position, code, first, second, packet
 pub const RECORDS_PER_WORD: usize = 6;
 pub const FILE_BYTES: usize = 60000;
 pub const LAST_CROSSING: u64 = 3563;
 pub const POSITION_MAX: u64 = 1 << 62;
+pub const PACKETS_MAX: u64 = 4_294_967_295;
 
 /// Why a call was refused; `number` is the header's.
 #[derive(Clone, Copy, Debug, PartialEq, Eq)]
@@ -28,6 +29,7 @@ pub enum Refused {
     FileShape = 6,
     FileCount = 7,
     WordField = 8,
+    LastPacket = 10,
     NoTracker = 100,
     NoSettings = 101,
 }
@@ -203,7 +205,7 @@ fn done(refusal: u64) -> Result<(), Refused> {
     if refusal == 0 {
         return Ok(());
     }
-    let all = [WrongLength, NoPacket, PacketFull, NoRoom, PacketField, FileShape, FileCount, WordField, NoTracker, NoSettings];
+    let all = [WrongLength, NoPacket, PacketFull, NoRoom, PacketField, FileShape, FileCount, WordField, LastPacket, NoTracker, NoSettings];
     Err(all.into_iter().find(|r| r.number() == refusal).expect("a refusal that the header has"))
 }
 

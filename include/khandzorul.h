@@ -17,8 +17,10 @@
  * Lengths.  tracker_len and records_len count 64-bit numbers, the other lengths count bytes. records_len is numbers and not records:
  *   the room is records_len / KHZ_RECORD_NUMBERS records, rounded down. Room for KHZ_RECORDS_PER_WORD records is enough for a word.
  *
- * Records.  A record is four numbers: position, code, first, second. A call writes its records at the front of the array, in order,
- *   and leaves the rest of the array as it was.
+ * Records.  A record is five numbers: position, code, first, second, packet. A call writes its records at the front of the array, in
+ *   order, and leaves the rest of the array as it was. The packet is the count of packets accepted since khz_start, from 1: a packet that is
+ *   refused does not count, and khz_reset keeps the count. So the records of two packets of one position, which come where a source was
+ *   restarted, are told apart.
  *
  * Refusals.  Each call answers 0 or the number of a refusal. 100 comes before every other number. A refused khz_start, khz_packet,
  *   khz_word or khz_reset leaves the tracker and the records as they were, bit for bit; so does a khz_payload that took no word. A
@@ -41,18 +43,19 @@
 extern "C" {
 #endif
 
-#define KHZ_API 4                                /* the version of this boundary */
+#define KHZ_API 5                                /* the version of this boundary */
 
 #define KHZ_TRACKER_WORDS 48                     /* numbers in a tracker */
 #define KHZ_WORD_BYTES 10                        /* bytes in a word */
 #define KHZ_DATA_BYTES 9                         /* bytes of a data word before its id */
 #define KHZ_LANES 28                             /* lanes of a link, 0 to 27 */
 #define KHZ_PACKET_WORDS 4096                    /* words that a packet takes */
-#define KHZ_RECORD_NUMBERS 4                     /* numbers in a record: position, code, first, second */
+#define KHZ_RECORD_NUMBERS 5                     /* numbers in a record: position, code, first, second, packet */
 #define KHZ_RECORDS_PER_WORD 6                   /* the most records that one word gives */
 #define KHZ_FILE_BYTES 60000                     /* bytes that a bench file has at most */
 #define KHZ_LAST_CROSSING 3563                   /* the last legal crossing of an orbit; no period is taken past it */
 #define KHZ_POSITION_MAX ((uint64_t)1 << 62)     /* the largest position of a packet */
+#define KHZ_PACKETS_MAX ((uint64_t)4294967295u)  /* packets that a tracker accepts */
 #define KHZ_PERIOD_MAX ((uint64_t)4294967295u)   /* the largest period, in crossings */
 
 #if defined(__GNUC__)
@@ -99,7 +102,7 @@ enum khz_status {
     KHZ_FATAL = 3
 };
 
-/* Refusals. Where several hold, the first of this order is given: of a start 100, 101; of a packet 100, 5; of a word and of a payload
+/* Refusals. Where several hold, the first of this order is given: of a start 100, 101; of a packet 100, 5, 10; of a word and of a payload
  * 100, 1, 2, 3, 4; of a file 6, 7, then packet by packet 5, 3; of a word to be written 8, 1. */
 enum khz_refusal {
     KHZ_DONE = 0,                                /* not refused */
@@ -111,11 +114,12 @@ enum khz_refusal {
     KHZ_FILE_SHAPE = 6,                          /* a file is under 16 or over 60,000 bytes, or its offsets or length are not as stated */
     KHZ_FILE_COUNT = 7,                          /* the packets' word counts do not sum to the header's */
     KHZ_WORD_FIELD = 8,                          /* a field to be written is wider than its bits, or a data word's id is no data id or its bytes not 9 */
+    KHZ_LAST_PACKET = 10,                        /* a packet beyond the last count */
     KHZ_NO_TRACKER = 100,                        /* tracker_len is not KHZ_TRACKER_WORDS, or the array holds no tracker (all zeros is none) */
     KHZ_NO_SETTINGS = 101                        /* a flag is neither 0 nor 1, or periodic is 1 and the period above KHZ_PERIOD_MAX, or the rule is neither 1 nor 2 */
 };
 
-/* Codes of records: the second number of a record. docs/CODES.md says of each what its two last numbers are and what to look at.
+/* Codes of records: the second number of a record. docs/CODES.md says of each what its first and second are and what to look at.
  * "R": only with running checks. */
 enum khz_code {
     KHZ_CODE_IHW = 30,                           /* an IHW has another id, or a reserved bit set */
@@ -190,9 +194,10 @@ _Static_assert(sizeof(khz_word_answer) == 64 && sizeof(khz_payload_answer) == 24
  * also where periodic is 0. Settings are fixed from here on. */
 KHZ_ANSWER uint64_t khz_start(uint64_t *tracker, size_t tracker_len, uint64_t running, uint64_t frames, uint64_t periodic, uint64_t period, uint64_t rule);
 
-/* Begins a packet: its words count from 1 again, and no data is seen in it yet. Answers 0, 100 or 5.
+/* Begins a packet: its words count from 1 again, and no data is seen in it yet. Answers 0, 100, 5 or 10.
  * Ranges: position at most KHZ_POSITION_MAX; orbit and trigger_type below 2^32; bc at most 4095; page below 2^16; stop below 2^8; format 0 (16
- * bytes from word to word) or 2 (10 bytes). Word n of the packet stands at position + 64 + (n - 1) * 16 or 10. */
+ * bytes from word to word) or 2 (10 bytes). Word n of the packet stands at position + 64 + (n - 1) * 16 or 10.
+ * A tracker accepts KHZ_PACKETS_MAX packets; the one after these is refused with 10, and words still go to the packet before it. khz_start counts anew. */
 KHZ_ANSWER uint64_t khz_packet(uint64_t *tracker, size_t tracker_len, uint64_t position, uint64_t orbit, uint64_t trigger_type, uint64_t bc, uint64_t page, uint64_t stop, uint64_t format);
 
 /* Takes one word of 10 bytes and writes its records. Refusals: 100, 1, 2, 3, 4. */

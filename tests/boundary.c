@@ -1,6 +1,6 @@
 /* boundary.c: the C boundary by example: 01's whole case through word and payload calls, every number and length that comes in about the edge of
  * its range, khz_check_file about its edges, the writers of words beside a model that sets bit after bit, the worst lane beside all 28, two
- * trackers that are back in step, the page at an IHW, and every id in the data section against the active lanes.
+ * trackers that are back in step, the page at an IHW, every id in the data section against the active lanes, and the count of packets up to its last.
  *
  *     cc -std=c11 -I include tests/boundary.c target/staticlib/libkhandzorul.a -o /tmp/boundary && /tmp/boundary
  *
@@ -46,7 +46,7 @@ static const uint64_t case_answers[5][6] = {
     {KHZ_TDT, 0, KHZ_FRAME_CLOSED, 74, 94, 0},
     {KHZ_TDH_AFTER_PACKET_DONE, 2, KHZ_FRAME_OPENED, 0, 0, 0},
 };
-static const uint64_t case_records[3][KHZ_RECORD_NUMBERS] = {{84, 1072, 1, 1}, {104, 440, 3564, 198}, {104, 1045, 3564, 198}};
+static const uint64_t case_records[3][KHZ_RECORD_NUMBERS] = {{84, 1072, 1, 1, 1}, {104, 440, 3564, 198, 1}, {104, 1045, 3564, 198, 1}};
 
 static void begin_case(uint64_t *t, uint64_t rule)
 {
@@ -91,6 +91,202 @@ static void case_by_payload(uint64_t rule)
     a = khz_payload(t, KHZ_TRACKER_WORDS, whole_case + CASE_WORDS + 10 * a.words, 10, records, 2 * KHZ_RECORD_NUMBERS);
     expect(a.refusal == KHZ_DONE && a.words == 1 && a.records == 2, "the rest of the whole case has another answer");
     expect(memcmp(records, case_records[1], 2 * sizeof case_records[0]) == 0, "the rest of the whole case gives other records");
+}
+
+/* Whether the first n numbers of an array of 16 are these, and the rest is as it was before the call. */
+enum { ARRAY = 16 };
+static bool wrote(const uint64_t *array, const uint64_t *before, const uint64_t *numbers, size_t n)
+{
+    return memcmp(array, numbers, n * sizeof *array) == 0 && memcmp(array + n, before + n, (ARRAY - n) * sizeof *array) == 0;
+}
+
+/* Room of so many numbers: a record takes five of them, and fewer are none. Of the whole case the third word gives one record, and the last two. */
+static void rooms(void)
+{
+    uint64_t begun[KHZ_TRACKER_WORDS], t[KHZ_TRACKER_WORDS], records[ARRAY], before[ARRAY];
+    const uint64_t *next = case_records[0];
+
+    memset(before, 0xA5, sizeof before);
+    begin_case(begun, KHZ_RULE_1);
+    for (int i = 0; i < 5; i++) {
+        const uint8_t *w = whole_case + CASE_WORDS + 10 * i;
+        const uint64_t n = case_answers[i][1];
+        for (size_t len = 0; len <= ARRAY; len++) {
+            const bool fits = len >= 5 * n;
+            const uint64_t refusal = fits ? KHZ_DONE : KHZ_NO_ROOM, given = fits ? n : 0;
+            khz_word_answer a;
+            khz_payload_answer b;
+            memcpy(t, begun, sizeof t);
+            memcpy(records, before, sizeof records);
+            a = khz_word(t, KHZ_TRACKER_WORDS, w, KHZ_WORD_BYTES, records, len);
+            expect(a.refusal == refusal && a.records == given, "khz_word has another room than five numbers a record");
+            expect(wrote(records, before, next, 5 * given), "khz_word writes other numbers than its records");
+            expect(fits || memcmp(t, begun, sizeof t) == 0, "khz_word without room changed the tracker");
+            memcpy(t, begun, sizeof t);
+            memcpy(records, before, sizeof records);
+            b = khz_payload(t, KHZ_TRACKER_WORDS, w, KHZ_WORD_BYTES, records, len);
+            expect(b.refusal == refusal && b.records == given, "khz_payload has another room than five numbers a record");
+            expect(wrote(records, before, next, 5 * given), "khz_payload writes other numbers than its records");
+            expect(fits || memcmp(t, begun, sizeof t) == 0, "khz_payload without room changed the tracker");
+        }
+        expect(khz_word(begun, KHZ_TRACKER_WORDS, w, KHZ_WORD_BYTES, records, ARRAY).refusal == KHZ_DONE, "a word of the whole case is refused");
+        next += 5 * n;
+    }
+}
+
+/* A packet at a position, all else 0. */
+static uint64_t packet_at(uint64_t *t, uint64_t position)
+{
+    return khz_packet(t, KHZ_TRACKER_WORDS, position, 0, 0, 0, 0, 0, 2);
+}
+
+/* Where a tracker keeps the count of packets. A tracker's numbers are the library's, and these tests reach in all the same: no one makes 4,294,967,295
+ * calls. The same packet twice changes the count and no other number. */
+static size_t place_of_count;
+static void find_count(void)
+{
+    uint64_t t[KHZ_TRACKER_WORDS], before[KHZ_TRACKER_WORDS];
+    int changed = 0;
+
+    expect(khz_start(t, KHZ_TRACKER_WORDS, 0, 0, 0, 0, KHZ_RULE_1) == KHZ_DONE, "khz_start is refused");
+    expect(packet_at(t, 0) == KHZ_DONE, "a packet is refused");
+    memcpy(before, t, sizeof t);
+    expect(packet_at(t, 0) == KHZ_DONE, "the same packet again is refused");
+    for (size_t i = 0; i < KHZ_TRACKER_WORDS; i++)
+        if (t[i] != before[i]) {
+            changed++;
+            place_of_count = i;
+        }
+    expect(changed == 1 && before[place_of_count] == 1 && t[place_of_count] == 2, "the same packet again changes another number than the count");
+}
+
+/* Whether an IHW with a reserved bit, as the first word of the packet at this position and behind a reset, gives its record and says this packet: in a
+ * word call and in a payload call, each on a copy of the tracker. */
+static bool says(const uint64_t *tracker, uint64_t position, uint64_t packet)
+{
+    static const uint8_t ihw[KHZ_WORD_BYTES] = {[3] = 0x10, [9] = 0xE0};
+    const uint64_t want[KHZ_RECORD_NUMBERS] = {position + 64, KHZ_CODE_IHW, 2, 0, packet};
+    uint64_t t[KHZ_TRACKER_WORDS], r[KHZ_RECORD_NUMBERS] = {0}, s[KHZ_RECORD_NUMBERS] = {0};
+    bool as_said;
+
+    memcpy(t, tracker, sizeof t);
+    as_said = khz_reset(t, KHZ_TRACKER_WORDS) == KHZ_DONE && khz_word(t, KHZ_TRACKER_WORDS, ihw, sizeof ihw, r, KHZ_RECORD_NUMBERS).records == 1;
+    memcpy(t, tracker, sizeof t);
+    as_said = as_said && khz_reset(t, KHZ_TRACKER_WORDS) == KHZ_DONE;
+    as_said = as_said && khz_payload(t, KHZ_TRACKER_WORDS, ihw, sizeof ihw, s, KHZ_RECORD_NUMBERS).records == 1;
+    return as_said && memcmp(r, want, sizeof want) == 0 && memcmp(s, want, sizeof want) == 0;
+}
+
+/* A packet that must be refused with this number, and leave the tracker. */
+static void refuses(uint64_t *t, uint64_t position, uint64_t bc, uint64_t number, const char *what)
+{
+    uint64_t before[KHZ_TRACKER_WORDS];
+
+    memcpy(before, t, sizeof before);
+    expect(khz_packet(t, KHZ_TRACKER_WORDS, position, 1, 1, bc, 1, 1, 0) == number, what);
+    expect(memcmp(before, t, sizeof before) == 0, "a refused packet changed the tracker");
+}
+
+/* Packets are counted from 1; one that is refused is not, a reset keeps the count, and khz_start counts anew. The position does not matter: the source was
+ * restarted, and two packets come from one. */
+static void count_of_packets(void)
+{
+    uint64_t t[KHZ_TRACKER_WORDS], u[KHZ_TRACKER_WORDS];
+    bool counted = true;
+
+    expect(khz_start(t, KHZ_TRACKER_WORDS, 1, 1, 0, 0, KHZ_RULE_1) == KHZ_DONE, "khz_start is refused");
+    refuses(t, 0, 4096, KHZ_PACKET_FIELD, "BC 4096 before any packet is not refused with 5");
+    expect(packet_at(t, 5000) == KHZ_DONE && says(t, 5000, 1), "the first packet is not 1");
+    expect(packet_at(t, 5000) == KHZ_DONE && says(t, 5000, 2), "a second packet of the same position is not 2");
+    refuses(t, 5000, 4096, KHZ_PACKET_FIELD, "BC 4096 is not refused with 5");
+    refuses(t, KHZ_POSITION_MAX + 1, 0, KHZ_PACKET_FIELD, "a position above 2^62 is not refused with 5");
+    expect(says(t, 5000, 2), "a refused packet counts");
+    memcpy(u, t, sizeof t);
+    expect(packet_at(t, 0) == KHZ_DONE && says(t, 0, 3), "a packet behind one that was refused is not 3");
+    expect(khz_reset(t, KHZ_TRACKER_WORDS) == KHZ_DONE && t[place_of_count] == 3 && says(t, 0, 3), "khz_reset does not keep the count");
+    expect(packet_at(t, KHZ_POSITION_MAX) == KHZ_DONE && says(t, KHZ_POSITION_MAX, 4), "a packet behind a reset is not 4");
+    expect(packet_at(u, 0) == KHZ_DONE && says(u, 0, 3), "a copy does not count on its own");
+    expect(khz_start(t, KHZ_TRACKER_WORDS, 1, 1, 0, 0, KHZ_RULE_1) == KHZ_DONE, "khz_start is refused");
+    expect(packet_at(t, 5000) == KHZ_DONE && says(t, 5000, 1), "khz_start does not count anew");
+    for (uint64_t n = 2; n <= 70000; n++)
+        counted = counted && packet_at(t, n % 3) == KHZ_DONE && says(t, n % 3, n);
+    expect(counted, "one of 70,000 packets does not say its number");
+}
+
+/* About the last packet: it is accepted, the next is refused with 10 and leaves all, 100 and 5 come before that; words go on, a reset keeps the count. */
+static void last_packet(void)
+{
+    static const uint64_t counts[] = {1, 65534, 65535, 65536, 2147483647, 2147483648, KHZ_PACKETS_MAX - 2, KHZ_PACKETS_MAX - 1};
+    static const uint8_t words[2 * KHZ_WORD_BYTES] = {[3] = 0x10, [9] = 0xE0, [19] = 0xE0}; /* an IHW with a reserved bit, and one where a TDH is due */
+    uint64_t t[KHZ_TRACKER_WORDS], before[KHZ_TRACKER_WORDS], r[2 * KHZ_RECORD_NUMBERS] = {0};
+    const uint64_t want[2 * KHZ_RECORD_NUMBERS] = {64, KHZ_CODE_IHW, 2, 0, 4294967295, 74, KHZ_CODE_TDH, 1, 0, 4294967295};
+    khz_payload_answer p;
+
+    expect(khz_start(t, KHZ_TRACKER_WORDS, 0, 0, 0, 0, KHZ_RULE_1) == KHZ_DONE && packet_at(t, 0) == KHZ_DONE, "a packet is refused");
+    for (size_t i = 0; i < sizeof counts / sizeof *counts; i++) {
+        t[place_of_count] = counts[i];
+        expect(packet_at(t, i) == KHZ_DONE && says(t, i, counts[i] + 1), "a packet up to the last is refused, or not counted");
+    }
+    expect(t[place_of_count] == 4294967295 && packet_at(t, 0) == KHZ_LAST_PACKET, "the packet beyond 4,294,967,295 is not refused with 10");
+    t[place_of_count]--;
+    expect(packet_at(t, 0) == KHZ_DONE, "the last packet is refused");
+
+    /* a word of the last packet, a packet that is refused, the next word */
+    expect(khz_word(t, KHZ_TRACKER_WORDS, words, KHZ_WORD_BYTES, r, KHZ_RECORD_NUMBERS).records == 1, "a word of the last packet gives no record");
+    expect(memcmp(r, want, KHZ_RECORD_NUMBERS * sizeof *r) == 0, "a word of the last packet gives another record");
+    refuses(t, 7, 4095, KHZ_LAST_PACKET, "a packet beyond the last count is not refused with 10");
+    refuses(t, 7, 4096, KHZ_PACKET_FIELD, "5 does not come before 10");
+    refuses(t, KHZ_POSITION_MAX + 1, 0, KHZ_PACKET_FIELD, "5 does not come before 10");
+    memcpy(before, t, sizeof t);
+    expect(khz_packet(t, KHZ_TRACKER_WORDS - 1, 0, 0, 0, 0, 0, 0, 2) == KHZ_NO_TRACKER, "100 does not come before 10");
+    expect(memcmp(before, t, sizeof t) == 0, "a refused packet changed the tracker");
+    p = khz_payload(t, KHZ_TRACKER_WORDS, words + KHZ_WORD_BYTES, KHZ_WORD_BYTES, r + KHZ_RECORD_NUMBERS, KHZ_RECORD_NUMBERS);
+    expect(p.refusal == KHZ_DONE && p.words == 1 && p.records == 1, "a payload behind a packet refused with 10 is not taken");
+    expect(memcmp(r, want, sizeof want) == 0, "a payload behind a packet refused with 10 gives another record");
+    expect(khz_reset(t, KHZ_TRACKER_WORDS) == KHZ_DONE, "khz_reset is refused");
+    refuses(t, 7, 0, KHZ_LAST_PACKET, "a reset counts packets anew");
+    expect(khz_start(t, KHZ_TRACKER_WORDS, 0, 0, 0, 0, KHZ_RULE_1) == KHZ_DONE, "khz_start is refused");
+    expect(packet_at(t, 0) == KHZ_DONE && says(t, 0, 1), "khz_start does not count anew");
+}
+
+/* An array whose count can't be: every call refuses it with 100 and leaves it. */
+static void no_count(const uint64_t *tracker, uint64_t count)
+{
+    uint64_t t[KHZ_TRACKER_WORDS], before[KHZ_TRACKER_WORDS], r[KHZ_RECORD_NUMBERS];
+    const uint8_t *w = whole_case + CASE_WORDS;
+    char what[80];
+
+    memcpy(t, tracker, sizeof t);
+    t[place_of_count] = count;
+    memcpy(before, t, sizeof t);
+    snprintf(what, sizeof what, "a tracker of %" PRIu64 " packets is not refused with 100", count);
+    expect(packet_at(t, 0) == KHZ_NO_TRACKER, what);
+    expect(khz_packet(t, KHZ_TRACKER_WORDS, 0, 0, 0, 4096, 0, 0, 2) == KHZ_NO_TRACKER, what);
+    expect(khz_word(t, KHZ_TRACKER_WORDS, w, KHZ_WORD_BYTES, r, KHZ_RECORD_NUMBERS).refusal == KHZ_NO_TRACKER, what);
+    expect(khz_payload(t, KHZ_TRACKER_WORDS, w, KHZ_WORD_BYTES, r, KHZ_RECORD_NUMBERS).refusal == KHZ_NO_TRACKER, what);
+    expect(khz_reset(t, KHZ_TRACKER_WORDS) == KHZ_NO_TRACKER, what);
+    expect(memcmp(before, t, sizeof t) == 0, "an array that is no tracker was changed");
+}
+
+/* Where a packet was accepted, 1 to 4,294,967,295 are counted, and where none was, none. */
+static void counts_that_can_not_be(void)
+{
+    static const uint64_t past_all[] = {UINT64_C(1) << 32, (UINT64_C(1) << 32) + 1, UINT64_C(1) << 63, UINT64_MAX}, some[] = {1, 2, KHZ_PACKETS_MAX};
+    uint64_t started[KHZ_TRACKER_WORDS], t[KHZ_TRACKER_WORDS];
+
+    expect(khz_start(started, KHZ_TRACKER_WORDS, 1, 1, 1, 198, KHZ_RULE_1) == KHZ_DONE, "khz_start is refused");
+    memcpy(t, started, sizeof t);
+    expect(packet_at(t, 0) == KHZ_DONE, "a packet is refused");
+    no_count(t, 0);
+    for (size_t i = 0; i < sizeof past_all / sizeof *past_all; i++) {
+        no_count(t, past_all[i]);
+        no_count(started, past_all[i]);
+    }
+    for (size_t i = 0; i < sizeof some / sizeof *some; i++) {
+        no_count(started, some[i]);
+        t[place_of_count] = some[i];
+        expect(khz_reset(t, KHZ_TRACKER_WORDS) == KHZ_DONE, "a tracker of 1 to 4,294,967,295 packets is refused");
+    }
 }
 
 /* How far past its last value a number is handed in: by one, and by what a conversion to 16, 32 or 63 bits would cut off. */
@@ -222,6 +418,13 @@ static void versions(void)
         expect(khz_reset(t, KHZ_TRACKER_WORDS) == KHZ_NO_TRACKER, "khz_reset takes a number that nothing stands for");
         t[i] = 0;
     }
+    for (uint64_t api = 0; api < 256; api++)
+        if (api != KHZ_API) {
+            t[0] ^= KHZ_API ^ api;
+            expect(khz_reset(t, KHZ_TRACKER_WORDS) == KHZ_NO_TRACKER, "khz_reset takes a tracker of another version");
+            t[0] ^= KHZ_API ^ api;
+        }
+    expect(khz_reset(t, KHZ_TRACKER_WORDS) == KHZ_DONE, "khz_reset is refused");
     t[0] ^= KHZ_API ^ (KHZ_API - 1);
     expect(khz_packet(t, KHZ_TRACKER_WORDS, 0, 0, 0, 0, 0, 0, 2) == KHZ_NO_TRACKER, "khz_packet takes a tracker of an older version");
     expect(khz_word(t, KHZ_TRACKER_WORDS, whole_case, KHZ_WORD_BYTES, records, KHZ_RECORD_NUMBERS).refusal == KHZ_NO_TRACKER, "khz_word does");
@@ -257,7 +460,7 @@ static size_t make_file(uint8_t *f, uint32_t packets, const uint16_t *counts)
 static void files(void)
 {
     static uint8_t f[70000];
-    uint16_t six[6] = {1000, 1000, 1000, 1000, 1000, 984}, one[1] = {5}, two[2] = {4097, 1}, none[1] = {0};
+    uint16_t six[6] = {1000, 1000, 1000, 1000, 1000, 984}, one[1] = {5}, two[2] = {4097, 1}, none[2500] = {0};
     size_t n;
 
     expect(khz_check_file(whole_case, sizeof whole_case) == KHZ_DONE, "the whole case is no bench file");
@@ -310,6 +513,12 @@ static void files(void)
     six[5]++;
     n = make_file(f, 6, six);
     expect(n == 60010 && khz_check_file(f, n) == 6, "a file of 60,010 bytes is not refused with 6");
+
+    /* the most packets of a file: too few to meet 10 */
+    n = make_file(f, 2499, none);
+    expect(n == 59992 && khz_check_file(f, n) == 0, "a file of 2,499 packets is refused");
+    n = make_file(f, 2500, none);
+    expect(n == 60016 && khz_check_file(f, n) == 6, "a file of 2,500 packets is not refused with 6");
 }
 
 /* The kinds that can be written. A kind has an id and fields, from the table of docs/RULES.md, in the order of its writer's parameters; what belongs to no
@@ -582,9 +791,23 @@ static void past_of(uint64_t *t, int words, int ends_in, uint8_t own)
     }
 }
 
+/* Whether id 0x47 in the data section gives two trackers the same four records, 991, 70, 1074 and 1073, but for the packet, which is each one's own. */
+static bool same_but_for_packet(uint64_t *t, uint64_t packet1, uint64_t *u, uint64_t packet2)
+{
+    static const uint8_t w[KHZ_WORD_BYTES] = {[9] = 0x47};
+    uint64_t r[KHZ_RECORDS_PER_WORD * KHZ_RECORD_NUMBERS], s[KHZ_RECORDS_PER_WORD * KHZ_RECORD_NUMBERS];
+    const size_t room = sizeof r / sizeof *r;
+    khz_word_answer a = khz_word(t, KHZ_TRACKER_WORDS, w, sizeof w, r, room), b = khz_word(u, KHZ_TRACKER_WORDS, w, sizeof w, s, room);
+    bool same = a.refusal == KHZ_DONE && b.refusal == KHZ_DONE && a.records == 4 && b.records == 4;
+
+    for (size_t i = 0; same && i < 4 * KHZ_RECORD_NUMBERS; i++)
+        same = i % KHZ_RECORD_NUMBERS == 4 ? r[i] == packet1 && s[i] == packet2 : r[i] == s[i];
+    return same;
+}
+
 /* Whether two trackers with pasts of their own agree from an accepted packet on: in the kinds at once, and in all their numbers once an IHW, an internal
- * TDH and a CDW were met. */
-static bool in_step(int words1, int ends1, int words2, int ends2)
+ * TDH and a CDW were met, but for the count where the second has accepted more packets. */
+static bool in_step(int words1, int ends1, int words2, int ends2, uint64_t more)
 {
     static const uint8_t calls[3][2] = {{0xE0}, {0xE8, 0x10}, {0xF8}}; /* id, byte 1: internal trigger */
     uint64_t t[KHZ_TRACKER_WORDS], u[KHZ_TRACKER_WORDS];
@@ -592,6 +815,8 @@ static bool in_step(int words1, int ends1, int words2, int ends2)
 
     past_of(t, words1, ends1, 1);
     past_of(u, words2, ends2, 2);
+    for (uint64_t i = 0; i < more; i++)
+        expect(khz_packet(u, KHZ_TRACKER_WORDS, i, 0, 0, 0, 0, 0, 2) == KHZ_DONE, "a packet is refused");
     expect(khz_packet(t, KHZ_TRACKER_WORDS, 64, 0, 0, 0, 0, 0, 2) == KHZ_DONE, "a packet is refused");
     expect(khz_packet(u, KHZ_TRACKER_WORDS, 64, 0, 0, 0, 0, 0, 2) == KHZ_DONE, "a packet is refused");
     expect(memcmp(t, u, sizeof t) != 0, "two pasts leave the same tracker");
@@ -599,7 +824,12 @@ static bool in_step(int words1, int ends1, int words2, int ends2)
         khz_word_answer a = say(t, 0, calls[i][1], 0, 0, calls[i][0]), b = say(u, 0, calls[i][1], 0, 0, calls[i][0]);
         agree = agree && a.refusal == b.refusal && a.kind == b.kind && a.guessed == b.guessed;
     }
-    return agree && memcmp(t, u, sizeof t) == 0;
+    u[place_of_count] -= more;
+    agree = agree && memcmp(t, u, sizeof t) == 0;
+    u[place_of_count] += more;
+    if (agree)
+        expect(same_but_for_packet(t, 2, u, 2 + more), "the records of two trackers in step differ in more than the packet");
+    return agree;
 }
 
 /* Promise 3: after a marker each, from any two states; and what is less than a marker does not do it. */
@@ -608,11 +838,13 @@ static void back_in_step(void)
     for (int words1 = 0; words1 <= RUN; words1++)
         for (int words2 = 0; words2 <= RUN; words2++)
             for (int ends1 = 0; ends1 < MARKERS; ends1++)
-                for (int ends2 = 0; ends2 < MARKERS; ends2++)
-                    expect(in_step(words1, ends1, words2, ends2), "two trackers are out of step after a marker each");
-    expect(!in_step(RUN, TWO_DATA, 0, SHORT_FRAME), "from THREE two data words and a TDT are as good as a marker");
-    expect(!in_step(RUN, TDH_WITHOUT_DATA, 0, SHORT_FRAME), "from THREE a short frame whose TDH has bit 13 set is as good as a marker");
-    expect(!in_step(0, TDT_NOT_DONE, 0, SHORT_FRAME), "a short frame without packet done is as good as a marker");
+                for (int ends2 = 0; ends2 < MARKERS; ends2++) {
+                    expect(in_step(words1, ends1, words2, ends2, 0), "two trackers are out of step after a marker each");
+                    expect(in_step(words1, ends1, words2, ends2, 3), "two trackers with unequal counts are out of step after a marker each");
+                }
+    expect(!in_step(RUN, TWO_DATA, 0, SHORT_FRAME, 0), "from THREE two data words and a TDT are as good as a marker");
+    expect(!in_step(RUN, TDH_WITHOUT_DATA, 0, SHORT_FRAME, 0), "from THREE a short frame whose TDH has bit 13 set is as good as a marker");
+    expect(!in_step(0, TDT_NOT_DONE, 0, SHORT_FRAME, 0), "a short frame without packet done is as good as a marker");
 }
 
 /* Ways to an IHW: the words before it and a reset, and what it then comes in: the start state, the three-way state, or a continuation. */
@@ -633,7 +865,8 @@ static const struct {
     {3, {{0xE0}, {0xE8}, {0xF0}}, false, CONTINUED},
 };
 
-/* The records of an IHW behind such words, in a packet of its own at position 0: 1120, then 1121 in the start state or 1122 in the three-way state. */
+/* The records of an IHW behind such words, in a packet of its own at position 0, the second: 1120, then 1121 in the start state or 1122 in the three-way
+ * state. */
 static void ihw_at_page(size_t way, uint64_t page, uint64_t stop, bool running)
 {
     uint64_t t[KHZ_TRACKER_WORDS], records[KHZ_RECORDS_PER_WORD * KHZ_RECORD_NUMBERS], said[3 * KHZ_RECORD_NUMBERS];
@@ -656,7 +889,7 @@ static void ihw_at_page(size_t way, uint64_t page, uint64_t stop, bool running)
     const bool given[3] = {asked && stop != 0, asked && comes_in == START && page != 0, asked && comes_in == THREE_WAY && page == 0};
     for (int i = 0; i < 3; i++)
         if (given[i]) {
-            const uint64_t record[KHZ_RECORD_NUMBERS] = {64, rows[i][0], rows[i][1], 0};
+            const uint64_t record[KHZ_RECORD_NUMBERS] = {64, rows[i][0], rows[i][1], 0, 2};
             memcpy(said + n++ * KHZ_RECORD_NUMBERS, record, sizeof record);
         }
     a = khz_word(t, KHZ_TRACKER_WORDS, ihw, sizeof ihw, records, sizeof records / sizeof *records);
@@ -702,26 +935,28 @@ static void pages(void)
     long_run();
 }
 
-/* The records that 01 and 02 give of a word in the data section at position 84, by its id, the active lanes and whether running checks are on: how many. */
-static size_t said_of_id(unsigned id, uint64_t active, bool running, uint64_t said[][KHZ_RECORD_NUMBERS])
+/* The records that 01 and 02 give of a word in the data section at position 84 of a packet, by its id, the active lanes and whether running checks are on:
+ * how many. */
+static size_t said_of_id(unsigned id, uint64_t active, bool running, uint64_t packet, uint64_t said[][KHZ_RECORD_NUMBERS])
 {
     static const uint64_t outer_none[4] = {78, 93, 108, 28}; /* ids 0x47, 0x4F, 0x57, 0x5F */
     bool inner = id >> 5 == 1, outer = id >> 5 == 2, none = inner ? id > 0x28 : id % 8 == 7;
     uint64_t lane = inner ? id - 0x20 : none ? outer_none[id / 8 % 4] : (id - 0x40) / 8 * 7 + id % 8;
-    bool data = (inner || outer) && !none, on = !none && (active >> lane & 1);
+    bool data = (inner || outer) && !none, on = data && (active >> lane & 1);
     size_t n = 0;
 
     if (!data) {
-        const uint64_t unknown[2][KHZ_RECORD_NUMBERS] = {{84, KHZ_CODE_UNKNOWN_IN_DATA, id, 0}, {84, KHZ_CODE_NO_DATA_ID, id, 0}};
+        const uint64_t unknown[2][KHZ_RECORD_NUMBERS] = {{84, KHZ_CODE_UNKNOWN_IN_DATA, id, 0, packet}, {84, KHZ_CODE_NO_DATA_ID, id, 0, packet}};
         memcpy(said, unknown, sizeof unknown);
         n = 2;
     }
     if (running && (inner || outer) && !on) {
-        const uint64_t record[KHZ_RECORD_NUMBERS] = {84, none ? KHZ_CODE_NO_SUCH_LANE : inner ? KHZ_CODE_INNER_LANE : KHZ_CODE_OUTER_LANE, lane, active};
+        const uint64_t code = none ? KHZ_CODE_NO_SUCH_LANE : inner ? KHZ_CODE_INNER_LANE : KHZ_CODE_OUTER_LANE;
+        const uint64_t record[KHZ_RECORD_NUMBERS] = {84, code, lane, active, packet};
         memcpy(said[n++], record, sizeof record);
     }
     if (running && outer && none) {
-        const uint64_t record[KHZ_RECORD_NUMBERS] = {84, KHZ_CODE_INPUT, 7, 0};
+        const uint64_t record[KHZ_RECORD_NUMBERS] = {84, KHZ_CODE_INPUT, 7, 0, packet};
         memcpy(said[n++], record, sizeof record);
     }
     return n;
@@ -747,7 +982,7 @@ static bool ids_agree(uint64_t active, bool running, bool continued)
     }
     for (unsigned id = 0; id < 256; id++) {
         uint64_t t[KHZ_TRACKER_WORDS], u[KHZ_TRACKER_WORDS];
-        size_t n = said_of_id(id, active, running, said);
+        size_t n = said_of_id(id, active, running, continued ? 2 : 1, said);
         khz_word_answer a;
         khz_payload_answer b;
         if (id == 0xF0 || id == 0xF8)
@@ -821,6 +1056,7 @@ static bool interval_agrees(uint64_t rule, uint64_t set, crossing a, crossing b,
     uint64_t t[KHZ_TRACKER_WORDS], records[4 * KHZ_RECORDS_PER_WORD * KHZ_RECORD_NUMBERS], want[2][KHZ_RECORD_NUMBERS], said[3];
     uint8_t words[4 * KHZ_WORD_BYTES] = {[9] = 0xE0};
     const size_t room = sizeof records / sizeof *records;
+    const uint64_t packet = between == A_RESET ? 2 : 1;
     size_t n = 2, wanted = 0;
     khz_payload_answer p;
     uint64_t refused = khz_start(t, KHZ_TRACKER_WORDS, running, 1, periodic, set, rule);
@@ -837,12 +1073,12 @@ static bool interval_agrees(uint64_t rule, uint64_t set, crossing a, crossing b,
     put_tdh(words + 10 * n++, b, true);
     p = khz_payload(t, KHZ_TRACKER_WORDS, words, 10 * n, records, room);
     if (running && between != A_RESET && b.bc < a.bc) {
-        const uint64_t record[KHZ_RECORD_NUMBERS] = {54 + 10 * n, KHZ_CODE_EARLIER_CROSSING, a.bc, b.bc};
+        const uint64_t record[KHZ_RECORD_NUMBERS] = {54 + 10 * n, KHZ_CODE_EARLIER_CROSSING, a.bc, b.bc, packet};
         memcpy(want[wanted++], record, sizeof record);
     }
     said_of_interval(rule, set, a, b, said);
     if (running && periodic && said[0] != 0) {
-        const uint64_t record[KHZ_RECORD_NUMBERS] = {54 + 10 * n, said[0], said[1], said[2]};
+        const uint64_t record[KHZ_RECORD_NUMBERS] = {54 + 10 * n, said[0], said[1], said[2], packet};
         memcpy(want[wanted++], record, sizeof record);
     }
     return refused == 0 && p.refusal == KHZ_DONE && p.words == n && p.records == wanted && memcmp(records, want, wanted * sizeof *want) == 0;
@@ -887,6 +1123,11 @@ int main(void)
         case_by_words(rule);
         case_by_payload(rule);
     }
+    rooms();
+    find_count();
+    count_of_packets();
+    last_packet();
+    counts_that_can_not_be();
     packet_ranges();
     setting_ranges();
     settings_apart();

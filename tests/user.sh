@@ -88,7 +88,7 @@ echo 'refused 3' >"$work/refused3"
 echo 'refused 5' >"$work/refused5"
 echo 'refused 6' >"$work/refused6"
 echo 'refused 7' >"$work/refused7"
-printf 'pos code first second\nrecords 0\n' >"$work/none"
+printf 'packet pos code first second\nrecords 0\n' >"$work/none"
 for f in whole_case two_pages; do sh tools/hex.sh <"examples/$f.hex" >"$work/$f"; done
 whole=$work/whole_case
 ./check "$whole" >/dev/null 2>"$work/err" || [ $? -eq 1 ] || { cat "$work/err"; echo "user: benchcheck is not there"; exit 1; }
@@ -145,7 +145,7 @@ try 'a file whose packet counts a word less' 2 "$work/refused7" "don't sum up" "
 with "$whole" 37 '\001' 1 >"$work/format_1"
 try 'a packet of format 1' 2 "$work/refused5" 'out of its range' "$work/format_1"
 with "$whole" 69 '\042' 1 >"$work/lane_2"
-sed 's/^84 1072 1 1$/84 1072 2 1/' examples/whole_case.out >"$work/lane_2.out"
+sed 's/^1 84 1072 1 1$/1 84 1072 2 1/' examples/whole_case.out >"$work/lane_2.out"
 try 'another lane in the whole case' 1 "$work/lane_2.out" '' "$work/lane_2"
 # 4,097 words in the header and in the packet
 (printf '01000000 01100000 10000000 28000000 0000000000000000 07000000 10000000 EC0D 0000 00 02 0110' | sh tools/hex.sh; bytes 40970) >"$work/full"
@@ -164,9 +164,10 @@ while [ "$(wc -c <"$work/words")" -lt 59840 ]; do cat "$work/words" "$work/words
 head -c 59840 "$work/words" >>"$work/largest"
 [ "$(wc -c <"$work/largest")" -eq 60000 ] || { what='the largest file'; wrong 'is not 60,000 bytes'; }
 awk 'BEGIN {
-    print "pos code first second"
+    print "packet pos code first second"
     for (w = 0; w < 5984; w++) {
-        at = int(w / 1000) * 65536 + 64 + w % 1000 * 10
+        p = int(w / 1000)
+        at = (p + 1) " " (p * 65536 + 64 + w % 1000 * 10)
         if (w == 0) { print at, 30, 1, 0; n++ }
         else if (w == 1) { print at, 40, 1, 0; n++ }
         else { print at, 991, 71, 0; print at, 70, 71, 0; print at, 1074, 78, 0; print at, 1073, 7, 0; n += 4 }

@@ -44,8 +44,26 @@ def case(rule, content, *lines):
     CASES.append((rule, content, "".join(line + "\n" for line in lines)))
 
 
+def packet_with(content, position):
+    """The packet of a file that has a word at a position, counted from 1. There must be one alone."""
+    found = []
+    for i in range(made.HEADER.unpack_from(content)[0]):
+        start, _, _, _, _, _, format, words = made.PACKET.unpack_from(content, 16 + 24 * i)
+        stride = 16 if format == 0 else 10
+        if position in range(start + 64, start + 64 + words * stride, stride):
+            found.append(i + 1)
+    assert len(found) == 1, "packets with a word at %d: %s" % (position, found)
+    return found[0]
+
+
+# 02, ticket 7: "the count of packets accepted since the start, beginning at 1 .. `benchcheck` prints the number as the first column".
 def printed(rule, content, *records):
-    case(rule, content, "pos code first second", *records, "records %d" % len(records))
+    """Records without their first column, which is the packet with a word at their position."""
+    printed_in_full(rule, content, *("%d %s" % (packet_with(content, int(record.split()[0])), record) for record in records))
+
+
+def printed_in_full(rule, content, *records):
+    case(rule, content, "packet pos code first second", *records, "records %d" % len(records))
 
 
 def refused(rule, content, n):
@@ -205,13 +223,35 @@ printed("one byte lost in the first data word of a page of 93 words: 991 and 70 
         file(packet(made.tens(ONE_BYTE_LOST))),
         *["%d %d 0 0" % (64 + 10 * n, code) for n in range(2, 93) for code in (991, 70)])
 
-# What no file can show: 4,097 words in one packet; a word refused with 4 is not counted, so that it stands at 64 when it is given again; with a set
-# period of 3564 each of the found periods 0, 1 .. 3563 differs, and their sum is 3563 times 3564 / 2.
+# The packet of a record: 02, ticket 7. "When two packets come from the same file position after a restart, a record can't be placed." Of these records the
+# first column is written down. In the third case the source is restarted in the middle of a trigger: its packets come again from position 0, and the tracker
+# goes on in the data section, where an IHW and a TDH, 224 and 232, are unknown; the TDT closes the frame of packet 1, and packet 3 is in step.
+printed_in_full("two packets of one position, told apart by the first column",
+                file(packet([ihw(reserved=1), tdh(100, no_data=1)], position=1000), packet([ihw(reserved=1), tdh(100, no_data=1)], position=1000, page=1)),
+                "1 1064 30 2 0", "2 1064 30 2 0")
+printed_in_full("the same packet three times: lane 1 is not active; in the second and third the IHW comes in the three-way state on page 0",
+                file(*[packet([ihw(), tdh(100), data(0x21), tdt()])] * 3),
+                "1 84 1072 1 1", "2 64 1122 0 0", "2 84 1072 1 1", "3 64 1122 0 0", "3 84 1072 1 1")
+printed_in_full("a restart in the middle of a trigger: positions come again, the count goes on",
+                file(packet([ihw(), tdh(100), data(), data(0x21)]),
+                     packet([ihw(), tdh(100), data(), data(0x21), tdt()]), packet([ihw(), tdh(100), data(0x21), tdt()], position=1000, page=1)),
+                "1 94 1072 1 1",
+                "2 64 991 224 0", "2 64 70 224 0", "2 74 991 232 0", "2 74 70 232 0", "2 94 1072 1 1",
+                "3 1084 1072 1 1")
+printed_in_full("packets without words count: the most that stand in a file with a word, 2,498, the last with one",
+                file(*[packet([])] * 2497, packet([ihw(reserved=1)])), "2498 64 30 2 0")
+printed("2,499 packets are the most that a file has: none of them is refused", file(*[packet([])] * 2499))
+
+# What no file can show: 4,097 words in one packet; a word refused with 4 is not counted, so that it stands at 64 when it is given again: four numbers are no
+# room for its record, and five are, the last of which is the packet; with a set period of 3564 each of the found periods 0, 1 .. 3563 differs, and their sum
+# is 3563 times 3564 / 2.
 # An IHW on page 0 and on page 1: in the start state, in the three-way state, and there after a reset, which leads to the start state.
 # Ids with running checks off and on, behind an IHW with lanes 8 and 9: the codes that each gives.
-CALLS = ("words 4096 refused 3\nrefused 4 then 64 30 2 0\ndiffer 3564 sum 6349266\n"
+# The packet that a record says: of the first packet, after one that is refused with 5, of the second, after a reset, of the third.
+CALLS = ("words 4096 refused 3\nrefused 4 then 64 30 2 0 1\ndiffer 3564 sum 6349266\n"
          "page 0 start 0 three 1122 reset 0\npage 1 start 1121 three 0 reset 1121\n"
-         "id 33 off on 1072\nid 40 off on\nid 41 off 991 70 on 991 70 1074\nid 71 off 991 70 on 991 70 1074 1073\n")
+         "id 33 off on 1072\nid 40 off on\nid 41 off 991 70 on 991 70 1074\nid 71 off 991 70 on 991 70 1074 1073\n"
+         "packet 1 refused 5 still 1 next 2 reset 2 next 3\n")
 
 # 02, ticket 9, by a rule and a set period two internal TDHs, each with its orbit and its crossing: the records of the second. Its crossing being smaller
 # than that of the first gives 440, whatever the orbits. 10,692 is three orbits; 2,147,483,647 orbits are 7,653,631,717,908 crossings; 4,294,967,295

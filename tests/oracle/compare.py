@@ -6,7 +6,8 @@
 First come the inputs of smallest/: the library, the Rust's release build and its debug build must answer them as each file says (smallest.py).
 Of the generated sequences kinds, guesses, frames, positions, codes, first, second and their order are compared, with the release build. A word's
 answers must be equal, or differ exactly as model.py says from the input alone; anything else is unexplained and fails the run. The library's
-side also checks what the header promises (khz_driver -c). Everything is built in a temporary folder.
+side also checks what the header promises (khz_driver -c), and the packet of each record, which the Rust has not. Everything is built in a temporary
+folder.
 
     --lib     the archive, for this machine; default: tools/native-lib.sh makes it. --plain takes plain.c in its place
     --build   builds the Rust in DIR and leaves it there for the next run

@@ -7,11 +7,13 @@
  *     Y hex                                                  a payload: Y refusal words records ; position code first second ; ...
  *
  * A frame is `-`, `O` or `C:start:end`. A refused call prints `REFUSED number`; the Rust has no such answer. A word may have any length from one byte on.
+ * The fifth number of a record, which the Rust has not, is not printed: each record must have the count of packets that were accepted since the start,
+ * which is kept here.
  *
  * With -c it also checks, at every call, what the header promises and the Rust can't say: that refusals come when and in the order that
  * they should and leave tracker and records bit for bit, that nothing behind the records is touched, that the answer's numbers are in
- * range, that an array that holds no tracker gets 100, and that payload calls over the same words (whole, cut in two, with too little
- * room) give the same records, counts and tracker.
+ * range, that an array that holds no tracker gets 100, that payload calls over the same words (whole, cut in two, with too little
+ * room) give the same records, counts and tracker, and that the count of packets stops at its last.
  * A broken promise is told on standard error, and the exit status is 1.
  *
  * Linked with the archive, or with plain.c: then compile with -DPLAIN.
@@ -57,7 +59,7 @@ static struct {
     uint64_t upto[KHZ_PACKET_WORDS + 1];             /* how many records the first i words gave */
     size_t words;
 } stretch;
-static bool accepted;                                /* a packet was, since the start */
+static uint64_t packets;                             /* accepted since the start: our own count */
 static size_t taken;                                 /* words in this packet: our own count */
 
 static void tell(const char *what)
@@ -197,7 +199,7 @@ static void check_word_again(const tracker_array *before, const uint8_t *w, khz_
     static uint64_t b[WORD_BUFFER + GUARD];
     size_t n = (size_t)a.records, numbers = n * KHZ_RECORD_NUMBERS;
 
-    for (size_t spare = 0; spare < KHZ_RECORD_NUMBERS; spare += 3) {
+    for (size_t spare = 0; spare < KHZ_RECORD_NUMBERS; spare += KHZ_RECORD_NUMBERS - 1) {
         size_t len = numbers + spare;
         tracker_array copy = *before;
         fill(b, WORD_BUFFER + GUARD);
@@ -283,7 +285,8 @@ static void end_stretch(void)
         numbers = (size_t)stretch.upto[fit] * KHZ_RECORD_NUMBERS;
         t = stretch.before;
         fill(b, BUFFER + GUARD);
-        a = khz_payload(t.n, KHZ_TRACKER_WORDS, stretch.bytes, words * KHZ_WORD_BYTES, room ? b : NULL, room ? room * KHZ_RECORD_NUMBERS + 3 : 0);
+        a = khz_payload(t.n, KHZ_TRACKER_WORDS, stretch.bytes, words * KHZ_WORD_BYTES, room ? b : NULL,
+                        room ? room * KHZ_RECORD_NUMBERS + KHZ_RECORD_NUMBERS - 1 : 0);
         demand(is_payload(a, 4, fit, stretch.upto[fit]), "a payload without room is not refused with 4 at the right word");
         demand(same_numbers(b, stretch.records, numbers) && untouched(b, numbers, BUFFER + GUARD), "a payload refused with 4 wrote other records than its words'");
         demand(same_tracker(&t, fit ? &stretch.after[fit - 1] : &stretch.before), "a payload refused with 4 leaves another tracker than its words");
@@ -301,8 +304,10 @@ static void end_stretch(void)
 
 static void print_records(const uint64_t *r, uint64_t n)
 {
-    for (uint64_t i = 0; i < n; i++, r += KHZ_RECORD_NUMBERS)
+    for (uint64_t i = 0; i < n; i++, r += KHZ_RECORD_NUMBERS) {
+        demand(r[4] == packets, "a record's fifth number is not the count of packets accepted since the start");
         printf(" ; %" PRIu64 " %" PRIu64 " %" PRIu64 " %" PRIu64, r[0], r[1], r[2], r[3]);
+    }
     putchar('\n');
 }
 
@@ -356,7 +361,7 @@ static void start(uint64_t running, uint64_t frames, uint64_t periodic, uint64_t
     if (khz_start(tracker.n, KHZ_TRACKER_WORDS, running, frames, periodic, period, rule) != 0)
         tell("khz_start is refused");
     started = true;
-    accepted = false;
+    packets = 0;
     taken = 0;
     if (checking) {
         uint8_t w[KHZ_WORD_BYTES] = {0};
@@ -382,6 +387,11 @@ static void start(uint64_t running, uint64_t frames, uint64_t periodic, uint64_t
     begin_stretch();
 }
 
+static uint64_t packet_on(tracker_array *t, size_t tracker_len, const uint64_t f[7])
+{
+    return khz_packet(t->n, tracker_len, f[0], f[1], f[2], f[3], f[4], f[5], f[6]);
+}
+
 /* The packet with one field put out of its range. */
 static void must_refuse_packet(const uint64_t f[7], int field, uint64_t n)
 {
@@ -390,9 +400,45 @@ static void must_refuse_packet(const uint64_t f[7], int field, uint64_t n)
 
     memcpy(g, f, sizeof g);
     g[field] = n;
-    demand(khz_packet(copy.n, KHZ_TRACKER_WORDS, g[0], g[1], g[2], g[3], g[4], g[5], g[6]) == 5, "a packet field outside its range is not refused with 5");
-    demand(khz_packet(copy.n, KHZ_TRACKER_WORDS - 1, g[0], g[1], g[2], g[3], g[4], g[5], g[6]) == 100, "a packet on a short array is not refused with 100 before 5");
+    demand(packet_on(&copy, KHZ_TRACKER_WORDS, g) == 5, "a packet field outside its range is not refused with 5");
+    demand(packet_on(&copy, KHZ_TRACKER_WORDS - 1, g) == 100, "a packet on a short array is not refused with 100 before 5");
     demand(same_tracker(&copy, &tracker), "a refused packet changed the tracker");
+}
+
+/* The end of the count, which no line of calls reaches: it is set here. The same packet once more changes one number of the tracker and no other, and
+ * that is the count. At the last but one a packet is accepted, and its records say the last; the next is refused with 10, whatever its fields are, and
+ * leaves everything; 100 and 5 come before it. */
+static void check_last_packet(const uint64_t f[7])
+{
+    static const uint8_t w[KHZ_WORD_BYTES] = {[9] = 0xF1}; /* gives a record in every state */
+    const uint64_t other[7] = {f[0] ? f[0] - 1 : 1, f[1] ^ 1, f[2] ^ 1, f[3] ^ 1, f[4] ^ 1, f[5] ^ 1, f[6] ^ 2};
+    uint64_t b[WORD_BUFFER], bad[7];
+    tracker_array t = tracker, last;
+    size_t changed = 0, place = 0;
+
+    demand(packet_on(&t, KHZ_TRACKER_WORDS, f) == 0, "a packet is refused the second time");
+    for (size_t i = 0; i < KHZ_TRACKER_WORDS; i++)
+        if (t.n[i] != tracker.n[i]) {
+            changed++;
+            place = i;
+        }
+    demand(changed == 1 && tracker.n[place] == packets && t.n[place] == packets + 1, "the same packet again does not count, or does more than that");
+    t.n[place] = KHZ_PACKETS_MAX - 1;
+    demand(packet_on(&t, KHZ_TRACKER_WORDS, f) == 0, "the last packet is refused");
+    for (int i = 0; i < 2; i++) { /* a word of the last packet, before and after a packet that is refused */
+        khz_word_answer a = khz_word(t.n, KHZ_TRACKER_WORDS, w, sizeof w, b, WORD_BUFFER);
+        demand(a.refusal == 0 && a.records > 0 && a.records <= KHZ_RECORDS_PER_WORD, "a word of the last packet gives no record");
+        for (uint64_t k = 0; k < KHZ_RECORDS_PER_WORD && k < a.records; k++)
+            demand(b[k * KHZ_RECORD_NUMBERS + 4] == KHZ_PACKETS_MAX, "a record of the last packet does not say so");
+        last = t;
+        demand(packet_on(&t, KHZ_TRACKER_WORDS, other) == 10, "a packet beyond the last count is not refused with 10");
+        memcpy(bad, other, sizeof bad);
+        bad[3] = 4096;
+        demand(packet_on(&t, KHZ_TRACKER_WORDS, bad) == 5, "5 does not come before 10");
+        demand(packet_on(&t, KHZ_TRACKER_WORDS - 1, other) == 100, "100 does not come before 10");
+        demand(same_tracker(&t, &last), "a packet refused with 10 changed the tracker");
+    }
+    demand(khz_reset(t.n, KHZ_TRACKER_WORDS) == 0 && packet_on(&t, KHZ_TRACKER_WORDS, f) == 10, "a reset counts packets anew");
 }
 
 static void packet(const uint64_t f[7])
@@ -409,12 +455,14 @@ static void packet(const uint64_t f[7])
         }
         must_refuse_packet(f, 6, 1);
     }
-    r = khz_packet(tracker.n, KHZ_TRACKER_WORDS, f[0], f[1], f[2], f[3], f[4], f[5], f[6]);
+    r = packet_on(&tracker, KHZ_TRACKER_WORDS, f);
     if (r != 0)
         printf("REFUSED %" PRIu64 "\n", r);
     else {
-        accepted = true;
+        packets++;
         taken = 0;
+        if (checking)
+            check_last_packet(f);
     }
     begin_stretch();
 }
@@ -440,7 +488,7 @@ static void word(const uint8_t *w, size_t len)
     khz_word_answer a;
 
     if (checking)
-        check_refusals(w, accepted, accepted && taken == KHZ_PACKET_WORDS);
+        check_refusals(w, packets > 0, packets > 0 && taken == KHZ_PACKET_WORDS);
     fill(b, WORD_BUFFER + GUARD);
     a = khz_word(tracker.n, KHZ_TRACKER_WORDS, w, len, b, WORD_BUFFER);
     if (a.refusal != 0) {
@@ -456,7 +504,7 @@ static void word(const uint8_t *w, size_t len)
     }
     demand(untouched(b, (size_t)a.records * KHZ_RECORD_NUMBERS, WORD_BUFFER + GUARD), "a word wrote behind its records");
     if (checking) {
-        demand(len == KHZ_WORD_BYTES && accepted && taken < KHZ_PACKET_WORDS, "a word that must be refused was taken");
+        demand(len == KHZ_WORD_BYTES && packets > 0 && taken < KHZ_PACKET_WORDS, "a word that must be refused was taken");
         check_answer(w, a);
         check_word_again(&before, w, a, b);
         if (stretch.words < KHZ_PACKET_WORDS) {

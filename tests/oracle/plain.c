@@ -27,6 +27,7 @@ enum {
     RUNNING, FRAMES, PERIOD, RULE,                   /* settings; PERIOD or NONE */
     POSITION, ORBIT, TRIGGER, BC, PAGE, STOP,        /* packet */
     STRIDE,                                          /* bytes from word to word; 0 before the first packet */
+    PACKETS,                                         /* packets accepted since the start */
     STATE, COUNT, SEEN,                              /* COUNT: words taken in this packet; SEEN: data seen in it */
     LANES, QUIET,                                    /* active lanes of the IHW stored last; ids of data words that give no record */
     TDH,                                             /* bits 63:0 of the TDH stored last */
@@ -60,7 +61,7 @@ HOT word load(const uint8_t *b)
 
 /* A word's records, kept here until it is known that all of them fit. A word without records writes only n. */
 typedef struct {
-    uint64_t n, position;
+    uint64_t n, position, packet;
     uint64_t number[KHZ_RECORDS_PER_WORD][KHZ_RECORD_NUMBERS];
 } record_list;
 
@@ -71,6 +72,7 @@ COLD void say(record_list *r, uint64_t code, uint64_t first, uint64_t second)
     x[1] = code;
     x[2] = first;
     x[3] = second;
+    x[4] = r->packet;
 }
 
 /* Where records go: the room that is left behind the first `used` records of the caller's array. */
@@ -317,6 +319,7 @@ HOT bool take(uint64_t *t, const uint8_t *bytes, buffer *b, khz_word_answer *a)
 
     r.n = 0;
     r.position = t[POSITION] + 64 + t[COUNT] * t[STRIDE];
+    r.packet = t[PACKETS];
     switch (t[STATE]) {
     case DATA_:
         taken = w.id == ID_TDT ? take_tdt(t, w, &r, b, a) : take_data(t, w, &r, b, a);
@@ -367,6 +370,9 @@ uint64_t plain_packet(uint64_t *t, size_t tracker_len, uint64_t position, uint64
         return KHZ_NO_TRACKER;
     if (position > KHZ_POSITION_MAX || orbit >> 32 || trigger_type >> 32 || bc > 4095 || page >> 16 || stop >> 8 || (format != 0 && format != 2))
         return KHZ_PACKET_FIELD;
+    if (t[PACKETS] == KHZ_PACKETS_MAX)
+        return KHZ_LAST_PACKET;
+    t[PACKETS]++;
     t[POSITION] = position;
     t[ORBIT] = orbit;
     t[TRIGGER] = trigger_type;

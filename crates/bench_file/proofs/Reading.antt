@@ -33,6 +33,7 @@ asks-word file i n left = simp (ne-eqb (suc left) 0 (λ q. omega arith))
 pub record PacketGiven (file : List ℕ) (i n left : ℕ) (p : Packet) (count : ℕ) : Type 0 where
   pub in-range : inRange p ≡ true
   pub few : count ≤ maxWords
+  pub one-on : pastPacket file i ≡ i + 1
   pub next : Place file (pastPacket file i) n count
   pub comes : itemsFrom file i n left ≡ packet p count ∷ itemsFrom file (pastPacket file i) n count
 
@@ -140,6 +141,7 @@ module _ {file : List ℕ} (s : Sound file) where
       record {
         in-range = s .in-range i h;
         few = s .count i h;
+        one-on = past-packet file i (packet-here i h);
         next = rw (past-packet file i (packet-here i h)) (record { within = omega arith; here = omega arith });
         comes = rw (past-packet file i (packet-here i h), e, add-zero n, add-one i);
       }

@@ -110,7 +110,7 @@ pub record NextPost (file : List ℕ) (i n left : ℕ) (r : Found) : Type 0 wher
 pub record Sound (file : List ℕ) : Type 0 where
   pub short : length file ≤ mostBytes
   pub whole : length file ≡ wordPlace file (words file)
-  pub packets-few : packets file ≤ 2500
+  pub packets-few : packets file ≤ 2499
   pub words-few : words file ≤ 6000
   pub sum : wordsBefore file (packets file) ≡ words file
   pub in-range : (i : ℕ) → i < packets file → inRange (packetAt file i) ≡ true

@@ -35,7 +35,7 @@ pub begun : Tracker
 begun = packetCall (startOf settings) packet .tracker
 
 pub whole-case : flat (payloadCall begun fiveWords mostRecords .records)
-    ≡ 84 ∷ 1072 ∷ 1 ∷ 1 ∷ 104 ∷ 440 ∷ 3564 ∷ 198 ∷ 104 ∷ 1045 ∷ 3564 ∷ 198 ∷ []
+    ≡ 84 ∷ 1072 ∷ 1 ∷ 1 ∷ 1 ∷ 104 ∷ 440 ∷ 3564 ∷ 198 ∷ 1 ∷ 104 ∷ 1045 ∷ 3564 ∷ 198 ∷ 1 ∷ []
 unfolding begun settings packet wholeCase number wordOf bits flat given packetCall
     recordsOf takenOf wordCall wordsFrom payloadCall
 whole-case = refl
@@ -57,7 +57,7 @@ whole-answers = refl
 
 -- The same as benchcheck prints it.
 pub whole-text : text wholeCase
-    ≡ ascii "pos code first second\n84 1072 1 1\n104 440 3564 198\n104 1045 3564 198\nrecords 3\n"
+    ≡ ascii "packet pos code first second\n1 84 1072 1 1\n1 104 440 3564 198\n1 104 1045 3564 198\nrecords 3\n"
 unfolding wholeCase number wordOf bits given packetCall
     recordsOf takenOf wordCall numberAt wordsBefore misfit firstRefusal checkOf wordItems packetItems items decimalIn
     decimal line lines heading recordsLine refusedLine recordsFrom fileRecords text

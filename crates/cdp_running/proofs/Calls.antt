@@ -6,13 +6,13 @@ use mathlib.Core.Bool.{Bool, true, false, cond}
 use mathlib.Core.List.{List}
 use lib.Dec.{eqb}
 use lib.ListN.{length}
-use borrow.Author.Tests.{le-leb, lt-leb}
+use borrow.Author.Tests.{le-leb, lt-leb, lt-ltb, le-ltb}
 use Rattle.words.specs.declared.Word.{Word}
 use Rattle.words.specs.declared.FromBuf.{FromBuf}
 use Rattle.words.specs.declared.FromBuf.the-variants as B
 use Rattle.words.specs.Word.{wordOf, fromBuf}
 use Rattle.packet.specs.declared.Packet.{Packet}
-use Rattle.packet.specs.Packet.{inRange, maxWords}
+use Rattle.packet.specs.Packet.{inRange, maxWords, mostPackets}
 use Rattle.payload_fsm.specs.declared.Advanced.{Advanced}
 use Rattle.records.specs.declared.Row.{Row}
 use Rattle.records.specs.declared.Written.{Written}
@@ -31,15 +31,20 @@ use Rattle.cdp_running.proofs.Good.{good-accept, good-next}
 pub also-good : {r t : Tracker} → r ≡ t → Good t → (r ≡ t) × Good r
 also-good e g = (e, rw e g)
 
-pub packet-refused : (t : Tracker) (p : Packet) → Good t → inRange p ≡ false
-    → PacketPost t p (record { tracker = t; refusal = 5 })
-unfolding packetCall
-packet-refused t p g e = record { answer = simp e; good = g }
+-- The three answers to a packet: 5, then 10, else it is accepted.
+module _ (t : Tracker) (p : Packet) (g : Good t) where
+  pub packet-5 : inRange p ≡ false → PacketPost t p (record { tracker = t; refusal = 5 })
+  unfolding packetCall
+  packet-5 e = record { answer = simp e; good = g }
 
-pub packet-accepted : (t : Tracker) (p : Packet) → Good t → inRange p ≡ true
-    → PacketPost t p (record { tracker = acceptOf t p; refusal = 0 })
-unfolding packetCall
-packet-accepted t p g e = record { answer = simp e; good = good-accept t p g e }
+  pub packet-10 : inRange p ≡ true → mostPackets ≤ t .packets → PacketPost t p (record { tracker = t; refusal = 10 })
+  unfolding packetCall
+  packet-10 e h = record { answer = simp (e, le-ltb _ _ h); good = g }
+
+  pub packet-accepted : inRange p ≡ true → t .packets < mostPackets
+      → PacketPost t p (record { tracker = acceptOf t p; refusal = 0 })
+  unfolding packetCall
+  packet-accepted e h = record { answer = simp (e, lt-ltb _ _ h); good = good-accept t p g e h }
 
 -- What the bytes were read as tells their length.
 pub not-ten : (bytes : List ℕ) {r : FromBuf} {n : ℕ} → r ≡ fromBuf bytes → r ≡ B.Refused n
@@ -77,13 +82,13 @@ wrote false p q = (refl, cc)
 module _ (t : Tracker) (bytes : List ℕ) {a : Advanced} {w : Word} (p : a ≡ takenAs t w) (q : w ≡ wordOf bytes) where
   pub as-written : {here : ℕ} {rows : List Row} {buffer after : List ℕ} {x : Written} → here ≡ positionNow t
       → rows ≡ padded (rowsOf t a w)
-      → WritePost here rows buffer x after → WritePost (positionNow t)
-      (padded (rowsOf t (takenAs t (wordOf bytes)) (wordOf bytes))) buffer x after
+      → WritePost here (t .packets) rows buffer x after
+      → WritePost (positionNow t) (t .packets) (padded (rowsOf t (takenAs t (wordOf bytes)) (wordOf bytes))) buffer x after
   as-written {here} {rows} {buffer} {after} {x} h e wrote =
       let is : rows ≡ padded (rowsOf t (takenAs t (wordOf bytes)) (wordOf bytes)) =
       e ∙ (λ i. padded (rowsOf t (p i) w)) ∙ (λ i. padded (rowsOf t (takenAs t (q i)) (q i))) in
-      subst (λ (l : List Row). WritePost (positionNow t) l buffer x after) is
-      (subst (λ (n : ℕ). WritePost n rows buffer x after) h wrote)
+      subst (λ (l : List Row). WritePost (positionNow t) (t .packets) l buffer x after) is
+      (subst (λ (n : ℕ). WritePost n (t .packets) rows buffer x after) h wrote)
 
   pub as-taken : {r : WordAnswer} {n : ℕ} → r ≡ takenAnswer t a w n
       → r ≡ takenAnswer t (takenAs t (wordOf bytes)) (wordOf bytes) n
@@ -120,15 +125,16 @@ module _ (t : Tracker) (bytes buffer : List ℕ) (g : Good t) where
         reached = simp (b, p, lt-leb _ _ h)
 
         -- What is written are the word's own records.
-        records-are : given (positionNow t) (padded (rowsOf t (takenAs t (wordOf bytes)) (wordOf bytes))) ≡ recordsOf t
+        records-are : given (positionNow t) (t .packets) (padded (rowsOf t (takenAs t (wordOf bytes)) (wordOf bytes))) ≡ recordsOf t
             (wordOf bytes)
         unfolding recordsOf
-        records-are = given-padded (positionNow t) (rowsOf t (takenAs t (wordOf bytes)) (wordOf bytes))
+        records-are = given-padded (positionNow t) (t .packets) (rowsOf t (takenAs t (wordOf bytes)) (wordOf bytes))
 
         -- What the write of the word's rows answered and left.
         abbrev Wrote : Written → List ℕ → Type 0
         Wrote x after =
-            WritePost (positionNow t) (padded (rowsOf t (takenAs t (wordOf bytes)) (wordOf bytes))) buffer x after
+            WritePost (positionNow t) (t .packets) (padded (rowsOf t (takenAs t (wordOf bytes)) (wordOf bytes))) buffer x
+            after
 
         pub word-4 : {r : WordAnswer} {after : List ℕ} {x : Written} → Wrote x after → x ≡ NoRoom
             → r ≡ wordAnswer t (refused 4)

@@ -110,7 +110,7 @@ module _ (t : Tracker) (w : Word) where
   unfolding recordsOf
   codes-by-kind =
       let a = takenAs t w in
-      given-each (λ r. In (a .word) (r .code)) (positionNow t) (rowsOf t a w)
+      given-each (λ r. In (a .word) (r .code)) (positionNow t) (t .packets) (rowsOf t a w)
       (each-so (λ row p _. p) (rowsOf t a w) (rows-in (a .word) (a .guessed) t w))
 
   -- What is said of records with some codes has to be shown of the rows of those kinds alone that give one of them.
@@ -120,7 +120,7 @@ module _ (t : Tracker) (w : Word) where
     unfolding recordsOf
     by-codes there =
         let a = takenAs t w in
-        given-each (λ r. P (r .code) (r .first)) (positionNow t) (rowsOf t a w)
+        given-each (λ r. P (r .code) (r .first)) (positionNow t) (t .packets) (rowsOf t a w)
         (at (a .word) (a .guessed) refl (without codes (a .word)) refl)
       where
         at : (kind : ItsPayloadWord) (guessed : Bool) → takenAs t w .word ≡ kind → (b : Bool) → without codes kind ≡ b

@@ -1,32 +1,30 @@
--- Of the records of a word: there are at most six, and none stands past the last position. Codes.antt says which codes they have.
+-- Of the records of a word: there are at most six, none stands past the last position, and each says the packet that the word is in. Codes.antt says which
+-- codes they have.
 -- Assumes nothing.
-use Prim.Native.Nat.{_+_, _≤_, _<_}
-use mathlib.Core.Path.{_≡_}
-use mathlib.Core.Bool.{Bool, true, false, cond}
+use Prim.Native.Nat.{_≤_, _<_}
+use mathlib.Core.Path.{_≡_, refl, sym, _∙_}
+use mathlib.Core.Bool.{Bool, true}
 use mathlib.Core.List.{List, [], _∷_}
 use native.Mathlib.Omega.{arith}
+use borrow.Author.Tests.{ltb-true}
 use lib.ListN.{length}
 use Rattle.words.specs.declared.Word.{Word}
-use Rattle.packet.specs.Packet.{mostPosition, maxWords}
+use Rattle.packet.specs.Packet.{mostPosition, maxWords, mostPackets}
 use Rattle.packet.proofs.Places.{position-most}
 use Rattle.payload_fsm.specs.declared.ItsPayloadWord.{ItsPayloadWord}
 use Rattle.payload_fsm.specs.declared.ItsPayloadWord.the-variants as K
 use Rattle.records.specs.declared.Row.{Row}
 use Rattle.words.specs.Lists.{Each}
-use Rattle.records.specs.Records.{count, mostRecords}
-use Rattle.records.proofs.Given.{counted, given-each}
+use Rattle.records.specs.Records.{mostRecords}
+use Rattle.records.proofs.Given.{counted, count-low, given-each}
 use Rattle.cdp_running.specs.declared.Tracker.{Tracker}
 use Rattle.cdp_running.specs.Tracker.{Good}
 use Rattle.cdp_running.specs.Word.{rowsAs, rowsOf, takenAs, positionNow, recordsOf}
 
-count-low : (rows : List Row) → count rows ≤ length rows
-unfolding count
-count-low [] = omega arith
-count-low (row ∷ rows) = at (row .on) (count-low rows)
-  where
-    at : (on : Bool) → count rows ≤ length rows → cond on 1 0 + count rows ≤ length (row ∷ rows)
-    at true h = omega arith
-    at false h = omega arith
+-- What holds anyway holds of all rows.
+of-all : {A : Type 0} → A → (rows : List Row) → Each (λ row. row .on ≡ true → A) rows
+of-all a [] = tt
+of-all a (row ∷ rows) = (λ _. a, of-all a rows)
 
 -- Rows by kind: at most six.
 few-rows : (kind : ItsPayloadWord) (guessed : Bool) (t : Tracker) (w : Word) → length (rowsAs kind guessed t w) ≤ mostRecords
@@ -47,15 +45,21 @@ module _ (t : Tracker) (w : Word) where
   few-records =
       let a = takenAs t w in
       let rows = rowsOf t a w in
-      omega (arith, counted (positionNow t) rows, count-low rows, few-rows (a .word) (a .guessed) t w)
+      omega (arith, counted (positionNow t) (t .packets) rows, count-low rows, few-rows (a .word) (a .guessed) t w)
 
   -- Positions are at most 2^62 + 64 + 16 * 4095.
   pub positions : Good t → t .at .count < maxWords → Each (λ r. r .position ≤ mostPosition) (recordsOf t w)
   unfolding recordsOf
   positions g h =
-      given-each (λ r. r .position ≤ mostPosition) (positionNow t) (rowsOf t (takenAs t w) w)
-      (all (rowsOf t (takenAs t w) w))
-    where
-      all : (rows : List Row) → Each (λ row. row .on ≡ true → positionNow t ≤ mostPosition) rows
-      all [] = tt
-      all (row ∷ rows) = (λ _. position-most (t .packet) (t .at .count) (g .packet) h, all rows)
+      given-each (λ r. r .position ≤ mostPosition) (positionNow t) (t .packets) (rowsOf t (takenAs t w) w)
+      (of-all (position-most (t .packet) (t .at .count) (g .packet) h) (rowsOf t (takenAs t w) w))
+
+  -- 02, ticket 7: the fifth number is "the count of packets accepted since the start, beginning at 1. It stops at 4,294,967,295". A word is taken once a
+  -- packet was accepted.
+  pub packets-said : Good t → t .accepted ≡ true
+      → Each (λ r. (r .packet ≡ t .packets) × ((1 ≤ r .packet) × (r .packet ≤ mostPackets))) (recordsOf t w)
+  unfolding recordsOf
+  packets-said g have =
+      let some : 1 ≤ t .packets = ltb-true 0 (t .packets) (sym (g .counted) ∙ have) in
+      given-each (λ r. (r .packet ≡ t .packets) × ((1 ≤ r .packet) × (r .packet ≤ mostPackets))) (positionNow t) (t .packets)
+      (rowsOf t (takenAs t w) w) (of-all (refl, (some, g .few)) (rowsOf t (takenAs t w) w))

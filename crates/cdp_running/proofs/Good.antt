@@ -1,13 +1,14 @@
 -- The invariant holds after the start and after every call.
 -- Assumes nothing.
-use Prim.Native.Nat.{ℕ, _<_}
+use Prim.Native.Nat.{ℕ, _+_, _<_}
 use mathlib.Core.Path.{_≡_, refl, sym, ap, _∙_}
 use mathlib.Core.Bool.{Bool, true, false, cond, true≢false}
 use native.Mathlib.Omega.{arith}
+use borrow.Author.Tests.{lt-ltb}
 use Rattle.words.specs.declared.Word.{Word}
 use Rattle.packet.specs.declared.Settings.{Settings}
 use Rattle.packet.specs.declared.Packet.{Packet}
-use Rattle.packet.specs.Packet.{inRange, maxWords, noPacket}
+use Rattle.packet.specs.Packet.{inRange, maxWords, mostPackets, noPacket}
 use Rattle.packet.proofs.Places.{position-most}
 use Rattle.payload_fsm.specs.Step.{start}
 use Rattle.stored.proofs.Good.{good-none, good-stored, good-frame, kept-ihw, kept-tdh}
@@ -37,6 +38,7 @@ begun s n =
       settings =
           record { running = s .running; frames = s .frames; periodic = s .periodic; period = n; rule = s .rule };
       accepted = false;
+      packets = 0;
       packet = noPacket;
       at = record { fsm = start; count = 0; seen = false };
       stored = noStored;
@@ -55,6 +57,8 @@ good-start s =
       ihw-present = λ e. clash (sym e);
       tdh-present = λ e. clash (sym e);
       fresh = λ _. ap (begun s) (twice (s .periodic) (s .period));
+      counted = refl;
+      few = omega arith;
     }
 
 pub good-reset : (t : Tracker) → Good t → Good (resetOf t)
@@ -68,10 +72,13 @@ good-reset t g =
       ihw-present = λ e. clash (sym e);
       tdh-present = λ e. clash (sym e);
       fresh = λ e. ap resetOf (g .fresh e);
+      counted = g .counted;
+      few = g .few;
     }
 
-pub good-accept : (t : Tracker) (p : Packet) → Good t → inRange p ≡ true → Good (acceptOf t p)
-good-accept t p g e =
+pub good-accept : (t : Tracker) (p : Packet) → Good t → inRange p ≡ true → t .packets < mostPackets
+    → Good (acceptOf t p)
+good-accept t p g e h =
     record {
       settings = g .settings;
       packet = e;
@@ -81,6 +88,8 @@ good-accept t p g e =
       ihw-present = g .ihw-present;
       tdh-present = g .tdh-present;
       fresh = λ f. clash f;
+      counted = sym (lt-ltb 0 (t .packets + 1) (omega arith));
+      few = omega arith;
     }
 
 pub good-next : (t : Tracker) (w : Word) → Good t → t .accepted ≡ true → t .at .count < maxWords
@@ -101,4 +110,6 @@ good-next t w g have h =
       tdh-present =
           λ e. kept-tdh (a .word) w (t .stored .tdh) (pastTdh (t .at .fsm .state)) (g .tdh-present) (c .tdh e);
       fresh = λ e. clash (sym have ∙ e);
+      counted = g .counted;
+      few = g .few;
     }

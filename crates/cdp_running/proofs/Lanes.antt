@@ -58,7 +58,7 @@ module _ (t : Tracker) (w : Word) where
   module _ (state : amongData (t .at .fsm .state) ≡ true) (running : t .settings .running ≡ true)
       (other : isDataId (idOf w) ≡ false) where
     abbrev say : ℕ → ℕ → ℕ → Record
-    say code first second = recordAt (positionNow t) (when true code first second)
+    say code first second = recordAt (positionNow t) (t .packets) (when true code first second)
 
     -- Neither a TDT nor a CDW.
     guessed : {top : ℕ} → idOf w / 32 ≡ top → top < 7 → takenAs t w ≡ guess K.DataWord (t .at .fsm .state)
@@ -73,7 +73,7 @@ module _ (t : Tracker) (w : Word) where
     inner-1074 barrel =
         rw (guessed (eqb-true (idOf w / 32) 1 barrel) (omega arith))
         (inner-missing (t .settings) running (t .at .seen) (t .stored .ihw .lanes) (t .stored .cdw) w other
-        (positionNow t) barrel)
+        (positionNow t) (t .packets) barrel)
 
     pub outer-1074 : outer w ≡ true
         → recordsOf t w ≡ say 991 (idOf w) 0 ∷ say 70 (idOf w) 0 ∷ say 1074 (outerLane (idOf w))
@@ -82,4 +82,4 @@ module _ (t : Tracker) (w : Word) where
     outer-1074 barrel =
         rw (guessed (eqb-true (idOf w / 32) 2 barrel) (omega arith))
         (outer-missing (t .settings) running (t .at .seen) (t .stored .ihw .lanes) (t .stored .cdw) w other
-        (positionNow t) barrel)
+        (positionNow t) (t .packets) barrel)

@@ -18,6 +18,7 @@ nextTracker t a w =
     record {
       settings = t .settings;
       accepted = t .accepted;
+      packets = t .packets;
       packet = t .packet;
       at = nextAt a (t .at);
       stored = nextStored (a .word) (t .at .seen) w (t .stored);

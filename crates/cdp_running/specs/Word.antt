@@ -49,12 +49,12 @@ rowsAs K.Ddw0 guessed t w = Ddw.ddw0Rows (t .settings) (t .packet) guessed w
 abbrev pub rowsOf : Tracker → Advanced → Word → List Row
 rowsOf t a w = rowsAs (a .word) (a .guessed) t w
 
--- Where the next word stands, and the records that it gives.
+-- Where the next word stands, and the records that it gives, which say the packet that it is in.
 abbrev pub positionNow : Tracker → ℕ
 positionNow t = positionOf (t .packet) (t .at .count)
 
 unfoldable pub recordsOf : Tracker → Word → List Record
-recordsOf t w = given (positionNow t) (rowsOf t (takenAs t w) w)
+recordsOf t w = given (positionNow t) (t .packets) (rowsOf t (takenAs t w) w)
 
 -- What a word call comes to: the word is taken, with the tracker after it, its records and all that is told of it, or it is refused by a number.
 pub record TakenWord : Type 0 where

@@ -9,8 +9,10 @@ ghost use Rattle.cdp_running.specs.Word.{positionNow, rowsOf, Outcome, w
 mod next;
 
 use packet::MAX_WORDS;
+use packet::MOST_PACKETS;
 use packet::Packet;
 use packet::REFUSED_FULL;
+use packet::REFUSED_LAST_PACKET;
 use packet::REFUSED_NO_PACKET;
 use packet::REFUSED_PACKET;
 use packet::REFUSED_ROOM;
@@ -38,10 +40,11 @@ pub struct At {
     pub seen: bool,
 }
 
-// All that is kept from one call to the next. What is absent is all zeros.
+// All that is kept from one call to the next: among it how many packets were accepted since the start. What is absent is all zeros.
 pub struct Tracker {
     pub settings: Settings,
     pub accepted: bool,
+    pub packets: u32,
     pub packet: Packet,
     pub at: At,
     pub stored: Stored,
@@ -153,6 +156,7 @@ impl Tracker {
         Tracker {
             settings: settings.kept(),
             accepted: false,
+            packets: 0,
             packet: Packet {
                 position: 0,
                 orbit: 0,
@@ -203,7 +207,7 @@ impl Tracker {
         packet::position(self.packet, self.at.count)
     }
 
-    // A packet: where its words stand and what they are checked against. Refusal 5 leaves everything.
+    // A packet: where its words stand and what they are checked against. Refusals 5 and 10 leave everything.
     pub fn packet(self, packet: Packet) -> PacketAnswer
         requires { ⌜ Good self ⌝ }
         ensures { λ r. ⌜ PacketPost self packet r ⌝ }
@@ -214,8 +218,15 @@ impl Tracker {
                 refusal: REFUSED_PACKET,
             };
         }
+        if self.packets >= MOST_PACKETS {
+            return PacketAnswer {
+                tracker: self,
+                refusal: REFUSED_LAST_PACKET,
+            };
+        }
         let mut t = self;
         t.accepted = true;
+        t.packets = self.packets + 1;
         t.packet = packet;
         t.at.count = 0;
         t.at.seen = false;
@@ -257,7 +268,7 @@ impl Tracker {
         let a = self.at.fsm.advance(word);
         let rows = rows_of(self, a, word);
         let here = self.here();
-        let Written::Records(n) = records::write(out, here, rows) else {
+        let Written::Records(n) = records::write(out, here, self.packets as u64, rows) else {
             return refused(self, REFUSED_ROOM);
         };
         next::taken(self, a, word, n)

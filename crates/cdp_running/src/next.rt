@@ -26,6 +26,7 @@ impl Tracker {
         Tracker {
             settings: settings,
             accepted: self.accepted,
+            packets: self.packets,
             packet: packet,
             at: At {
                 fsm: fsm,

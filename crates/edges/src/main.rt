@@ -1,6 +1,7 @@
 // The edges of document 01 that are no theorems: what benchcheck prints of the files c00, c01 .. of data/, and the calls that no file can make.
 // tests/make/edges.py makes the files and, from 01 by hand, what is to be printed; it says what each case is about.
 ghost use Rattle.cdp_running.specs.Tracker.{Good};
+use cdp_running::PacketAnswer;
 use cdp_running::Tracker;
 use libc::STDOUT_FILENO;
 use packet::Packet;
@@ -16,7 +17,7 @@ const MOST_NUMBERS: usize = records::MOST_RECORDS * RECORD_WIDTH;
 const TWO_RECORDS: usize = 2 * RECORD_WIDTH;
 
 // How many files there are.
-const FILES: u8 = 64;
+const FILES: u8 = 69;
 
 fn text(bytes: &[u8]) {
     io::write_all(STDOUT_FILENO, bytes);
@@ -117,16 +118,16 @@ fn show_full() {
     }
 }
 
-// "Counting a word refused with 4": an IHW with a reserved bit, first with no room, then with room for its record.
+// "Counting a word refused with 4": an IHW with a reserved bit, first with no room, then with room for its record, which has five numbers.
 fn show_room() {
     let t = packet_taken(true, 198, 0);
-    let mut small = [0u64; RECORD_WIDTH - 1];
+    let mut small = [0u64; 4];
     let first = t.word(b"\0\0\0\x10\0\0\0\0\0\xE0", &mut small);
     let told = first.told;
     text(b"refused ");
     number(told.refusal() as u64);
     let after = first.tracker;
-    let mut out = [0u64; RECORD_WIDTH];
+    let mut out = [0u64; 5];
     after.word(b"\0\0\0\x10\0\0\0\0\0\xE0", &mut out);
     text(b" then ");
     number(out[0]);
@@ -136,6 +137,8 @@ fn show_room() {
     number(out[2]);
     text(b" ");
     number(out[3]);
+    text(b" ");
+    number(out[4]);
     text(b"\n");
 }
 
@@ -246,6 +249,53 @@ fn show_lane(id: u8) {
     show_codes(false, id);
     text(b" on");
     show_codes(true, id);
+    text(b"\n");
+}
+
+// Another packet of the same position. A BC above 4095 is refused.
+fn next_packet(t: Tracker, bc: u16) -> PacketAnswer
+    requires { ⌜ Good t ⌝ }
+    ensures { λ r. ⌜ Good (r .tracker) ⌝ }
+{
+    t.packet(Packet {
+        position: 0,
+        orbit: 0,
+        trigger: 0,
+        bc: bc,
+        page: 0,
+        stop: 0,
+        format: 2,
+    })
+}
+
+// The packet that the record of an IHW with a reserved bit says.
+fn packet_at_ihw(t: Tracker) -> u64
+    requires { ⌜ Good t ⌝ }
+{
+    let mut out = [0u64; TWO_RECORDS];
+    t.word(b"\0\0\0\x10\0\0\0\0\0\xE0", &mut out);
+    out[4]
+}
+
+// "The count of packets accepted since the start": one that is refused does not count, and a reset keeps the count.
+fn show_packets() {
+    let first = packet_taken(true, 198, 0);
+    let refused = next_packet(first, 4096);
+    let second = next_packet(refused.tracker, 0);
+    let reset = second.tracker.reset();
+    let third = next_packet(reset, 0);
+    text(b"packet ");
+    number(packet_at_ihw(first));
+    text(b" refused ");
+    number(refused.refusal as u64);
+    text(b" still ");
+    number(packet_at_ihw(refused.tracker));
+    text(b" next ");
+    number(packet_at_ihw(second.tracker));
+    text(b" reset ");
+    number(packet_at_ihw(reset));
+    text(b" next ");
+    number(packet_at_ihw(third.tracker));
     text(b"\n");
 }
 
@@ -373,6 +423,7 @@ fn main() {
     show_lane(0x28);
     show_lane(0x29);
     show_lane(0x47);
+    show_packets();
     show_rules();
     show_differences();
     show_illegal();

@@ -1,7 +1,7 @@
 -- Equal calls leave two such trackers so, and say the same kinds.
 -- Assumes nothing.
 use Prim.Native.Nat.{ℕ, zero, suc, _+_, _-_, _*_, _/_, _%_, _≤_}
-use mathlib.Core.Path.{_≡_, refl, sym, ap, subst}
+use mathlib.Core.Path.{_≡_, refl, sym, ap, subst, _∙_}
 use mathlib.Core.Bool.{Bool, true, false, cond}
 use mathlib.Core.List.{List, [], _∷_, _++_}
 use native.Mathlib.Nat.{le-of-eq}
@@ -19,11 +19,12 @@ use Rattle.cdp_running.specs.declared.PacketAnswer.{PacketAnswer}
 use Rattle.cdp_running.specs.Tracker.{acceptOf, resetOf, packetCall}
 use Rattle.cdp_running.specs.Word as Word
 use Rattle.cdp_running.specs.Word.{Outcome, refused, wordCall}
-use Rattle.cdp_running.proofs.Outcome.{taken-admitted}
+use Rattle.cdp_running.proofs.Outcome.{packet-not-ten, taken-admitted}
 use Rattle.payload.specs.Payload.{Run, further, wordCalls, payloadCalls, total}
 use Rattle.payload.proofs.Words.{payload-total}
-use Rattle.forgetting.specs.Calls.{Call, packet, word, payload, reset, after, run, kind, refusal, kindsIn, kindsOf, kinds, Took, tookIn, tookOf, took}
-use Rattle.forgetting.specs.Forget.{Roomy}
+use Rattle.forgetting.specs.Calls.{Call, packet, word, payload, reset, after, run, answer, answers, Kind, kind, refusal, kindsIn, kindsOf, kinds, Took}
+use Rattle.forgetting.specs.Calls.{tookIn, tookOf, took}
+use Rattle.forgetting.specs.Forget.{Roomy, NotTen, NeverTen}
 use Rattle.forgetting.proofs.Same.{Met, meets, meetsAll, Same, carried, other, itself, Alike, both-refused, both-taken, word-alike}
 
 -- What word calls on two trackers come to.
@@ -57,10 +58,11 @@ pub record Agrees (m : Met) (t u : Tracker) (c : Call) : Type 0 where
   pub same : Same (meetsAll m (tookOf t c)) (after t c) (after u c)
 
 same-accept : {m : Met} {t u : Tracker} (p : Packet) → Same m t u → Same m (acceptOf t p) (acceptOf u p)
-same-accept p s = record { stored = s .stored; is = ap (λ (x : Tracker). acceptOf x p) (s .is); same = s .same }
+same-accept p s =
+    record { packets = s .packets + 1; stored = s .stored; is = ap (λ (x : Tracker). acceptOf x p) (s .is); same = s .same }
 
 same-reset : {m : Met} {t u : Tracker} → Same m t u → Same m (resetOf t) (resetOf u)
-same-reset s = record { stored = s .stored; is = ap resetOf (s .is); same = s .same }
+same-reset s = record { packets = s .packets; stored = s .stored; is = ap resetOf (s .is); same = s .same }
 
 payload-alike : (m : Met) (t u : Tracker) (b : List ℕ) (places : ℕ) → Same m t u
     → mostRecords * (length b / 10) ≤ places
@@ -81,21 +83,38 @@ payload-alike m t u b places s h =
 abbrev ran : Run → Tracker
 ran r = r .tracker
 
-pub call-agrees : (m : Met) (t u : Tracker) (c : Call) → Same m t u → Roomy c → Agrees m t u c
-unfolding packetCall kindsIn tookIn meetsAll
-call-agrees m t u (packet p) s _ = record { kinds-agree = number (inRange p); same = tracker (inRange p) }
+pub call-agrees : (m : Met) (t u : Tracker) (c : Call) → Same m t u → Roomy c → NotTen (answer t c) → NotTen (answer u c)
+    → Agrees m t u c
+unfolding kindsIn tookIn meetsAll
+call-agrees m t u (packet p) s _ ten ten′ =
+    record {
+      kinds-agree = ap (λ (x : PacketAnswer). said x) is ∙ number (inRange p) ∙ sym (ap (λ (x : PacketAnswer). said x) is′);
+      same = carried (ap tracker is) (ap tracker is′) (trackers (inRange p));
+    }
   where
-    answer : Bool → Tracker → PacketAnswer
-    answer ok x = cond ok (record { tracker = acceptOf x p; refusal = 0 }) (record { tracker = x; refusal = 5 })
+    byRange : Bool → Tracker → PacketAnswer
+    byRange ok x = cond ok (record { tracker = acceptOf x p; refusal = 0 }) (record { tracker = x; refusal = 5 })
 
-    number : (ok : Bool) → refusal (answer ok t .refusal) ∷ [] ≡ refusal (answer ok u .refusal) ∷ []
+    said : PacketAnswer → List Kind
+    said x = refusal (x .refusal) ∷ []
+
+    tracker : PacketAnswer → Tracker
+    tracker x = x .tracker
+
+    is : packetCall t p ≡ byRange (inRange p) t
+    is = packet-not-ten t p ten
+
+    is′ : packetCall u p ≡ byRange (inRange p) u
+    is′ = packet-not-ten u p ten′
+
+    number : (ok : Bool) → said (byRange ok t) ≡ said (byRange ok u)
     number true = refl
     number false = refl
 
-    tracker : (ok : Bool) → Same m (answer ok t .tracker) (answer ok u .tracker)
-    tracker true = same-accept p s
-    tracker false = s
-call-agrees m t u (word b buffer) s h =
+    trackers : (ok : Bool) → Same m (byRange ok t .tracker) (byRange ok u .tracker)
+    trackers true = same-accept p s
+    trackers false = s
+call-agrees m t u (word b buffer) s h _ _ =
     let both = at refl (word-alike b (room buffer) (room buffer) s h h) in
     record { kinds-agree = both .0; same = both .1 }
   where
@@ -109,13 +128,13 @@ call-agrees m t u (word b buffer) s h =
           subst (λ (l : List ℕ). Same
               (meets m (record { word = wordOf l; kind = x .kind; seen = t .at .seen })) (x .next) (y .next)) (sym ten) same,
         )
-call-agrees m t u (payload b buffer) s h =
+call-agrees m t u (payload b buffer) s h _ _ =
     let both = payload-alike m t u b (room buffer) s h in
     record {
       kinds-agree = both .kinds-agree;
       same = carried (ap ran (payload-total t b (room buffer))) (ap ran (payload-total u b (room buffer))) (both .same);
     }
-call-agrees m t u reset s _ = record { kinds-agree = refl; same = same-reset s }
+call-agrees m t u reset s _ _ _ = record { kinds-agree = refl; same = same-reset s }
 
 meets-append : (m : Met) (xs ys : List Took) → meetsAll m (xs ++ ys) ≡ meetsAll (meetsAll m xs) ys
 unfolding meetsAll
@@ -144,9 +163,12 @@ agree-more m t u c calls one rest =
           (rest .same);
     }
 
-pub calls-agree : (m : Met) (t u : Tracker) (calls : List Call) → Same m t u → Each Roomy calls → Agree m t u calls
-calls-agree m t u [] s _ = agree-none m t u s
-calls-agree m t u (c ∷ calls) s h =
-    let one = call-agrees m t u c s (h .0) in
+pub calls-agree : (m : Met) (t u : Tracker) (calls : List Call) → Same m t u → Each Roomy calls → NeverTen t calls
+    → NeverTen u calls
+    → Agree m t u calls
+unfolding answers
+calls-agree m t u [] s _ _ _ = agree-none m t u s
+calls-agree m t u (c ∷ calls) s h ten ten′ =
+    let one = call-agrees m t u c s (h .0) (ten .0) (ten′ .0) in
     agree-more m t u c calls one (calls-agree (meetsAll m (tookOf t c)) (after t c) (after u c) calls (one .same)
-    (h .1))
+    (h .1) (ten .1) (ten′ .1))

@@ -1,5 +1,5 @@
--- Promise 3 at the C boundary, over the promises of the exported functions alone: what callers see of kinds agrees at once, and once all three were met the
--- numbers of the two arrays are the same, and so is all that is seen of later calls.
+-- Promise 3 at the C boundary, over the promises of the exported functions alone: what callers see of kinds agrees at once; and once all three were met the
+-- numbers of the two arrays are the same, and so is all that is seen of later calls, or, with unequal counts of packets, all but the count in the records.
 -- Assumes nothing.
 use Prim.Native.Nat.{ℕ, _+_}
 use mathlib.Core.Path.{_≡_, refl, sym, ap, _∙_}
@@ -18,9 +18,10 @@ use Rattle.khandzorul.specs.Answer.{toldNumbers}
 use Rattle.khandzorul.proofs.Laws.{packet-holds, reset-holds, word-holds, payload-holds}
 use Rattle.forgetting.specs.Calls as C
 use Rattle.forgetting.specs.Calls.{Call, after, run, Answer, answer, answers, Kind, kind, refusal, kindOf, kindsIn, kindsOf, kinds, took}
-use Rattle.forgetting.specs.Forget.{AcceptedMarker, Roomy, Begins, HasMet}
+use Rattle.forgetting.specs.Forget.{AcceptedMarker, Roomy, Continues, HasMet, bareAnswer, bareAnswers}
 use Rattle.forgetting.specs.Seen as Show
-use Rattle.forgetting.specs.Seen.{Seen, Did, khz-packet, khz-word, khz-payload, khz-reset, Ran, none, then, kindsSeen, allKinds, ForgottenOnArrays}
+use Rattle.forgetting.specs.Seen.{Seen, Did, khz-packet, khz-word, khz-payload, khz-reset, Ran, none, then, kindsSeen, allKinds}
+use Rattle.forgetting.specs.Seen.{bareSeen, allBare, ForgottenOnArrays}
 use Rattle.forgetting.proofs.Forgetting.{forgetting}
 
 -- An answer of the definitions, as a caller sees it.
@@ -128,15 +129,28 @@ unfolding allKinds showing answers kinds ofCalls
 calls-kinds t [] = refl
 calls-kinds t (c ∷ calls) = let one = call-kinds t c in let more = calls-kinds (after t c) calls in λ i. one i ∷ more i
 
--- Two arrays that are trackers with equal settings; each accepts a marker; then equal calls, with room, that begin with an accepted packet.
+-- What is seen without the last number of each record is the answers without it.
+bare-shown : (x : Answer) → bareSeen (shown x) ≡ shown (bareAnswer x)
+bare-shown (C.packet n) = refl
+bare-shown (C.word told buffer) = refl
+bare-shown (C.payload words records n buffer) = refl
+bare-shown C.reset = refl
+
+bare-showing : (xs : List Answer) → allBare (showing xs) ≡ showing (bareAnswers xs)
+unfolding allBare showing bareAnswers
+bare-showing [] = refl
+bare-showing (x ∷ xs) = λ i. bare-shown x i ∷ bare-showing xs i
+
+-- Two arrays that are trackers with equal settings; each accepts a marker; then equal calls, with room, that begin with a packet that both accept, and of
+-- which neither refuses one with 10.
 pub forgetting-on-arrays : {a a′ b b′ m m′ z z′ : List ℕ} (t u : Tracker)
     (past past′ calls later : List Call) {sp sp′ sc sc′ sl sl′ : List Seen}
     → IsTracker a t → IsTracker a′ u → t .settings ≡ u .settings → AcceptedMarker t past → AcceptedMarker u past′
-    → Begins (calls ++ later) → Each Roomy (calls ++ later)
+    → Continues (run t past) (calls ++ later) → Continues (run u past′) (calls ++ later) → Each Roomy (calls ++ later)
     → Ran a past sp b → Ran a′ past′ sp′ b′ → Ran b calls sc m → Ran b′ calls sc′ m′ → Ran m later sl z
     → Ran m′ later sl′ z′
-    → ForgottenOnArrays (HasMet (took (run t past) calls)) sc sc′ sl sl′ z z′
-forgetting-on-arrays {a} {a′} {b} {b′} {m} {m′} {z} {z′} t u past past′ calls later e e′ set mt mu begins room p p′ q q′
+    → ForgottenOnArrays (HasMet (took (run t past) calls)) (run t past .packets ≡ run u past′ .packets) sc sc′ sl sl′ z z′
+forgetting-on-arrays {a} {a′} {b} {b′} {m} {m′} {z} {z′} t u past past′ calls later e e′ set mt mu goes goes′ room p p′ q q′
     r r′ =
     let one = steps e p in
     let one′ = steps e′ p′ in
@@ -146,14 +160,18 @@ forgetting-on-arrays {a} {a′} {b} {b′} {m} {m′} {z} {z′} t u past past�
     let three′ = steps (two′ .holds) r′ in
     let all = steps (one .holds) (ran-on q r) in
     let all′ = steps (one′ .holds) (ran-on q′ r′) in
-    let f = forgetting t u past past′ calls later (e .good) (e′ .good) set mt mu begins room in
+    let f = forgetting t u past past′ calls later (e .good) (e′ .good) set mt mu goes goes′ room in
     record {
       kinds-agree =
           ap allKinds (all .sees) ∙ calls-kinds (run t past) (calls ++ later)
           ∙ ap (ofCalls (calls ++ later)) (f .kinds-agree)
           ∙ sym (calls-kinds (run u past′) (calls ++ later)) ∙ sym (ap allKinds (all′ .sees));
       numbers-agree =
-          λ met. three .holds .numbers ∙ ap (λ (x : Tracker). encodeOf (run x later)) (f .trackers-agree met)
+          λ met even. three .holds .numbers ∙ ap (λ (x : Tracker). encodeOf (run x later)) (f .trackers-agree met even)
           ∙ sym (three′ .holds .numbers);
-      seen-agree = λ met. three .sees ∙ ap showing (f .answers-agree met) ∙ sym (three′ .sees);
+      seen-agree = λ met even. three .sees ∙ ap showing (f .answers-agree met even) ∙ sym (three′ .sees);
+      bare-agree =
+          λ met. ap allBare (three .sees) ∙ bare-showing (answers (run (run t past) calls) later)
+          ∙ ap showing (f .bare-agree met)
+          ∙ sym (bare-showing (answers (run (run u past′) calls) later)) ∙ sym (ap allBare (three′ .sees));
     }

@@ -1,18 +1,19 @@
 -- The theorem says something: kinds and records differ with the input and with the past, its conditions can be met, by either marker, and each
 -- is needed.
 -- Assumes nothing.
-use Prim.Native.Nat.{ℕ, _+_, _*_, _≤_}
+use Prim.Native.Nat.{ℕ, _+_, _-_, _*_, _≤_}
 use mathlib.Core.Path.{_≡_, refl, ap}
-use mathlib.Core.Bool.{Bool, true, false}
+use mathlib.Core.Bool.{Bool, true, false, true≢false}
 use mathlib.Core.List.{List, [], _∷_, _++_}
 use native.Mathlib.Omega.{arith}
 use borrow.Author.Tests.{eqb-false}
 use lib.Dec.{eqb}
-use lib.ListN.{replicate}
+use lib.ListN.{getD, replicate}
 use Rattle.words.specs.declared.Word.{Word}
 use Rattle.words.specs.Word.{number, wordOf, bits}
 use Rattle.packet.specs.declared.Rule.the-variants as R
 use Rattle.packet.specs.declared.Settings.{Settings}
+use Rattle.packet.specs.Packet.{mostPackets}
 use Rattle.payload_fsm.specs.Kinds.{kindNumber}
 use Rattle.payload_fsm.specs.Settle.{DataClear, TdtDone, TdhClear, Marker, three-data, short-frame}
 use Rattle.words.specs.Lists.{Each}
@@ -21,8 +22,11 @@ use Rattle.cdp_running.specs.declared.Tracker.{Tracker}
 use Rattle.cdp_running.specs.declared.Told.the-variants.{Taken, Refused}
 use Rattle.cdp_running.specs.Tracker.{Good, startOf, packetCall}
 use Rattle.cdp_running.specs.Word.{recordsOf, takenOf, wordCall}
+use Rattle.cdp_running.proofs.Good.{good-start}
 use Rattle.forgetting.specs.Calls.{Call, packet, word, payload, reset, run, Answer, answers, Kind, kind, refusal, kindsIn, kinds, tookIn, took, wordsIn}
-use Rattle.forgetting.specs.Forget.{NoReset, AcceptedMarker, Roomy, Begins, asIhw, asInternalTdh, asFirstCdw, some, HasMet}
+use Rattle.forgetting.specs.Forget.{NoReset, AcceptedMarker, Roomy, Begins, NeverTen, Continues, asIhw, asInternalTdh, asFirstCdw, some, HasMet}
+use Rattle.forgetting.proofs.Walk.{good-run}
+use Rattle.forgetting.proofs.Same.{counting}
 use Rattle.forgetting.proofs.Forgetting.{forgetting}
 
 -- Ten bytes: the first three, byte 8, and the id; a word call with room for so many records; and the words that are used below, with room for the
@@ -103,6 +107,7 @@ pub data Condition : Type 0 where
   met-ihw : Condition
   met-internal : Condition
   met-cdw : Condition
+  equally-many : Condition
 
 abbrev place : Condition → ℕ
 place none = 0
@@ -114,6 +119,7 @@ place has-room = 5
 place met-ihw = 6
 place met-internal = 7
 place met-cdw = 8
+place equally-many = 9
 
 abbrev pub unless : Bool → Type 0 → Type 0
 unless true A = Unit
@@ -142,11 +148,13 @@ pub record Needed (left : Condition) (t u : Tracker) (past past′ calls later :
   pub marker : But left has-marker (EndsInMarker (wordsIn (took t past)))
   pub no-reset : But left not-reset (Each NoReset past)
   pub marker′ : AcceptedMarker u past′
-  pub begins : But left packet-first (Begins (calls ++ later))
+  pub begins : But left packet-first (Begins (run t past) (calls ++ later) × Begins (run u past′) (calls ++ later))
+  pub never-ten : NeverTen (run t past) (calls ++ later) × NeverTen (run u past′) (calls ++ later)
   pub roomy : But left has-room (Each Roomy (calls ++ later))
   pub has-ihw : But left met-ihw (some asIhw (took (run t past) calls) ≡ true)
   pub has-internal : But left met-internal (some asInternalTdh (took (run t past) calls) ≡ true)
   pub has-cdw : But left met-cdw (some asFirstCdw (took (run t past) calls) ≡ true)
+  pub equal : But left equally-many (run t past .packets ≡ run u past′ .packets)
   pub differ : answers (run (run t past) calls) later ≡ answers (run (run u past′) calls) later → ⊥
 
 -- They are all: with none left out, no answer differs.
@@ -154,8 +162,11 @@ pub all-asked : {t u : Tracker} {past past′ calls later : List Call} → Good 
     → Needed none t u past past′ calls later → ⊥
 all-asked {t} {u} {past} {past′} {calls} {later} gt gu n =
     let m = accepted t past (n .marker) (n .no-reset) in
-    let f = forgetting t u past past′ calls later gt gu (n .settings-equal) m (n .marker′) (n .begins) (n .roomy) in
-    n .differ (f .answers-agree (record { ihw = n .has-ihw; internal-tdh = n .has-internal; first-cdw = n .has-cdw }))
+    let goes : Continues (run t past) (calls ++ later) = record { begins = n .begins .0; never-ten = n .never-ten .0 } in
+    let goes′ : Continues (run u past′) (calls ++ later) = record { begins = n .begins .1; never-ten = n .never-ten .1 } in
+    let f = forgetting t u past past′ calls later gt gu (n .settings-equal) m (n .marker′) goes goes′ (n .roomy) in
+    let met : HasMet (took (run t past) calls) = record { ihw = n .has-ihw; internal-tdh = n .has-internal; first-cdw = n .has-cdw } in
+    n .differ (f .answers-agree met (n .equal))
 
 -- The words of the two markers. Below, the first past ends in a short frame, and the second in three data words and a TDT.
 data-0 : DataClear (wordOf (ten 0 0 0 0 0x20))
@@ -221,6 +232,10 @@ met = record { ihw = refl; internal-tdh = refl; first-cdw = refl }
 room : {A : Type 0} → A → mostRecords ≤ mostRecords
 room e = omega arith
 
+-- A packet that is accepted is not refused with 10.
+no : _≡_ {A = ℕ} 0 10 → ⊥
+no e = omega arith
+
 -- A data word of lane 1, which is not active, gets 1072 with running checks only.
 abbrev pub all-three : List Call
 all-three = header ∷ ihw 1 ∷ internal-tdh 0 ∷ cdw 0 ∷ []
@@ -240,11 +255,13 @@ needs-settings =
       marker′ =
           by-three begun-plain (three 1 0) [] 1 0 refl (record { data-id = refl; clear = refl })
           (record { data-id = refl; clear = refl }) four;
-      begins = refl;
+      begins = (refl, refl);
+      never-ten = ((no, (tt, (tt, (tt, (tt, tt))))), (no, (tt, (tt, (tt, (tt, tt))))));
       roomy = (tt, (room, (room, (room, (room, tt)))));
       has-ihw = refl;
       has-internal = refl;
       has-cdw = refl;
+      equal = refl;
       differ = λ e. eqb-false 1 0 refl (ap counted e);
     }
 
@@ -268,11 +285,13 @@ needs-rule =
       marker′ =
           by-three begun-two (three 1 0) [] 1 0 refl (record { data-id = refl; clear = refl })
           (record { data-id = refl; clear = refl }) four;
-      begins = refl;
+      begins = (refl, refl);
+      never-ten = ((no, (tt, (tt, (tt, (tt, (tt, tt)))))), (no, (tt, (tt, (tt, (tt, (tt, tt)))))));
       roomy = (tt, (room, (room, (room, (room, (room, tt))))));
       has-ihw = refl;
       has-internal = refl;
       has-cdw = refl;
+      equal = refl;
       differ = λ e. eqb-false 0 1 refl (ap counted e);
     }
 
@@ -288,11 +307,13 @@ needs-marker =
       marker = tt;
       no-reset = tt;
       marker′ = accepted-three;
-      begins = refl;
+      begins = (refl, refl);
+      never-ten = ((no, (tt, (tt, (tt, (tt, tt))))), (no, (tt, (tt, (tt, (tt, tt))))));
       roomy = (tt, (room, (room, (room, (room, tt)))));
       has-ihw = refl;
       has-internal = refl;
       has-cdw = refl;
+      equal = refl;
       differ = λ e. eqb-false 1 0 refl (ap counted e);
     }
 
@@ -310,20 +331,22 @@ needs-no-reset =
       marker = by-short (wordOf (ten 1 0 0 0 0xE0) ∷ []) refl;
       no-reset = tt;
       marker′ = accepted-three;
-      begins = refl;
+      begins = (refl, refl);
+      never-ten = ((no, (tt, (tt, (tt, (tt, (tt, tt)))))), (no, (tt, (tt, (tt, (tt, (tt, tt)))))));
       roomy = (tt, (room, (room, (room, (room, (room, tt))))));
       has-ihw = refl;
       has-internal = refl;
       has-cdw = refl;
+      equal = refl;
       differ = λ e. eqb-false 0 2 refl (ap counted e);
     }
 
 -- A packet before the TDT: no data is seen in it yet, so that the next CDW is the first data, and is stored. A new packet for both would end that
--- difference.
+-- difference. The other past has a packet more too, so that both have accepted equally many.
 abbrev pub packets : List Call
 packets = ihw 1 ∷ internal-tdh 0 ∷ data-word 0 ∷ header ∷ tdt-done ∷ []
 
-pub needs-packet : Needed packet-first begun begun packets (three 1 0) (ihw 1 ∷ internal-tdh 0 ∷ cdw 0 ∷ [])
+pub needs-packet : Needed packet-first begun begun packets (header ∷ three 1 0) (ihw 1 ∷ internal-tdh 0 ∷ cdw 0 ∷ [])
     (header ∷ cdw 1 ∷ [])
 unfolding begun counted some run answers took tookIn wordsIn packetCall wordCall takenOf
     recordsOf given flat wordOf number bits
@@ -332,12 +355,16 @@ needs-packet =
       settings-equal = refl;
       marker = by-short (wordOf (ten 1 0 0 0 0xE0) ∷ []) refl;
       no-reset = (tt, (tt, (tt, (tt, (tt, tt)))));
-      marker′ = accepted-three;
+      marker′ =
+          by-three begun (header ∷ three 1 0) [] 1 0 refl (record { data-id = refl; clear = refl })
+          (record { data-id = refl; clear = refl }) (tt, four);
       begins = tt;
+      never-ten = ((tt, (tt, (tt, (no, (tt, tt))))), (tt, (tt, (tt, (no, (tt, tt))))));
       roomy = (room, (room, (room, (tt, (room, tt)))));
       has-ihw = refl;
       has-internal = refl;
       has-cdw = refl;
+      equal = refl;
       differ = λ e. eqb-false 1 0 refl (ap counted e);
     }
 
@@ -357,11 +384,13 @@ needs-room =
       marker = ends-short;
       no-reset = four;
       marker′ = other-crossing;
-      begins = refl;
+      begins = (refl, refl);
+      never-ten = ((no, (tt, (tt, (tt, (tt, tt))))), (no, (tt, (tt, (tt, (tt, tt))))));
       roomy = tt;
       has-ihw = refl;
       has-internal = refl;
       has-cdw = refl;
+      equal = refl;
       differ = λ e. eqb-false 1 0 refl (ap counted e);
     }
 
@@ -378,11 +407,13 @@ needs-ihw =
       marker = ends-short;
       no-reset = four;
       marker′ = other-lanes;
-      begins = refl;
+      begins = (refl, refl);
+      never-ten = ((no, (tt, (tt, (tt, tt)))), (no, (tt, (tt, (tt, tt)))));
       roomy = (tt, (room, (room, (room, tt))));
       has-ihw = tt;
       has-internal = refl;
       has-cdw = refl;
+      equal = refl;
       differ = λ e. eqb-false 0 1 refl (ap counted e);
     }
 
@@ -399,11 +430,13 @@ needs-internal =
       marker = ends-short;
       no-reset = four;
       marker′ = other-crossing;
-      begins = refl;
+      begins = (refl, refl);
+      never-ten = ((no, (tt, (tt, (tt, (tt, (tt, tt)))))), (no, (tt, (tt, (tt, (tt, (tt, tt)))))));
       roomy = (tt, (room, (room, (room, (room, (room, tt))))));
       has-ihw = refl;
       has-internal = tt;
       has-cdw = refl;
+      equal = refl;
       differ = λ e. eqb-false 0 1 refl (ap counted e);
     }
 
@@ -433,10 +466,82 @@ needs-cdw =
       marker′ =
           by-three begun (with-cdw 2 (three 1 0)) (words-before 2) 1 0 refl
           (record { data-id = refl; clear = refl }) (record { data-id = refl; clear = refl }) eight;
-      begins = refl;
+      begins = (refl, refl);
+      never-ten = ((no, (tt, (tt, (tt, tt)))), (no, (tt, (tt, (tt, tt)))));
       roomy = (tt, (room, (room, (room, tt))));
       has-ihw = refl;
       has-internal = refl;
       has-cdw = tt;
+      equal = refl;
       differ = λ e. eqb-false 0 1 refl (ap counted e);
     }
+
+-- With unequal counts the last numbers of records differ: a past with a packet more, and a data word of lane 1, which is not active.
+pub packet-said : List Answer → ℕ
+packet-said [] = 0
+packet-said (packet n ∷ rest) = packet-said rest
+packet-said (word told buffer ∷ rest) = getD buffer 4 0
+packet-said (payload words records n buffer ∷ rest) = getD buffer 4 0
+packet-said (reset ∷ rest) = packet-said rest
+
+pub needs-equally-many : Needed equally-many begun begun (short 1 0) (header ∷ three 1 0) all-three (say 0 0 0 0 0x21 ∷ [])
+unfolding begun packet-said some run answers took tookIn wordsIn packetCall wordCall takenOf
+    recordsOf given flat wordOf number bits
+needs-equally-many =
+    record {
+      settings-equal = refl;
+      marker = ends-short;
+      no-reset = four;
+      marker′ =
+          by-three begun (header ∷ three 1 0) [] 1 0 refl (record { data-id = refl; clear = refl })
+          (record { data-id = refl; clear = refl }) (tt, four);
+      begins = (refl, refl);
+      never-ten = ((no, (tt, (tt, (tt, (tt, tt))))), (no, (tt, (tt, (tt, (tt, tt))))));
+      roomy = (tt, (room, (room, (room, (room, tt)))));
+      has-ihw = refl;
+      has-internal = refl;
+      has-cdw = refl;
+      equal = tt;
+      differ = λ e. eqb-false 2 3 refl (ap packet-said e);
+    }
+
+-- Where one of the two meets 10, kinds differ: all else that is asked holds of a tracker that has accepted all packets but one and of one that has
+-- accepted one, and the second of two packets is refused with 10 by the first alone.
+pub last-but-one : Tracker
+last-but-one = counting begun (mostPackets - 1)
+
+pub good-last : Good last-but-one
+unfolding begun last-but-one run packetCall
+good-last =
+    let g = good-run (startOf settings) (header ∷ []) (good-start settings) in
+    record {
+      settings = g .settings;
+      packet = g .packet;
+      count = g .count;
+      stored = g .stored;
+      frame = g .frame;
+      ihw-present = g .ihw-present;
+      tdh-present = g .tdh-present;
+      fresh = λ e. absurd (true≢false e);
+      counted = refl;
+      few = omega arith;
+    }
+
+pub accepted-last : AcceptedMarker last-but-one (short 1 0)
+unfolding begun last-but-one run took tookIn wordsIn packetCall wordCall takenOf recordsOf given wordOf number bits
+accepted-last = accepted last-but-one (short 1 0) (by-short (wordOf (ten 1 0 0 0 0xE0) ∷ []) refl) four
+
+pub both-begin : Begins (run last-but-one (short 1 0)) (header ∷ header ∷ []) × Begins (run begun (three 1 0)) (header ∷ header ∷ [])
+unfolding begun last-but-one run packetCall wordCall takenOf recordsOf given wordOf number bits
+both-begin = (refl, refl)
+
+pub last-refusal : List (List Kind) → ℕ
+last-refusal [] = 0
+last-refusal ((refusal n ∷ ks) ∷ []) = n
+last-refusal ((refusal n ∷ ks) ∷ k ∷ rest) = last-refusal (k ∷ rest)
+last-refusal ((kind k guessed ∷ ks) ∷ rest) = last-refusal rest
+last-refusal ([] ∷ rest) = last-refusal rest
+
+pub needs-never-ten : kinds (run last-but-one (short 1 0)) (header ∷ header ∷ []) ≡ kinds (run begun (three 1 0)) (header ∷ header ∷ []) → ⊥
+unfolding begun last-but-one last-refusal run kinds packetCall wordCall takenOf recordsOf given wordOf number bits
+needs-never-ten e = eqb-false 10 0 refl (ap last-refusal e)

@@ -2,6 +2,8 @@ pub mod Walk
 pub mod Marker
 pub mod Same
 pub mod Alike
+pub mod Counts
+pub mod Bare
 pub mod Forgetting
 pub mod Arrays
 pub mod Differ

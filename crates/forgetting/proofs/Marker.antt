@@ -28,7 +28,7 @@ pub record Settled (t : Tracker) : Type 0 where
 -- Packets leave it so.
 rests : {t u : Tracker} {ws : List Word} → Walk t ws u → ws ≡ [] → Settled t → Settled u
 rests here e s = s
-rests (accepts p r rest) e s = rests rest e (record { state = s .state; frame = s .frame })
+rests (accepts p r few rest) e s = rests rest e (record { state = s .state; frame = s .frame })
 rests (takes w have low rest) e s = absurd (cons≢nil e)
 
 -- A TDT with packet done, where data is expected.
@@ -53,7 +53,7 @@ closing : {t u : Tracker} {zs : List Word} (ws : List Word) (d : Word) → Walk 
 unfolding stateAfter
 closing [] d here e g s done = absurd (nil≢cons e)
 closing (w ∷ ws) d here e g s done = absurd (nil≢cons e)
-closing ws d (accepts {t = t} p r rest) e g s done = closing ws d rest e (good-accept t p g r) s done
+closing ws d (accepts {t = t} p r few rest) e g s done = closing ws d rest e (good-accept t p g r few) s done
 closing [] d (takes {t = t} {ws = zs} w have low rest) e g s done =
     let next = good-next t w g have low in
     let same : w ≡ d = cc in

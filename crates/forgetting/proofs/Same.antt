@@ -1,7 +1,7 @@
--- Two trackers that are the same but for what they store, and of that the same what was met: a word leaves them so.
+-- Two trackers that are the same but for their counts of packets and what they store, and of that the same what was met: a word leaves them so.
 -- Assumes nothing.
 use Prim.Native.Nat.{ℕ, _≤_}
-use mathlib.Core.Path.{_≡_, refl, ap, subst, _∙_}
+use mathlib.Core.Path.{_≡_, refl, sym, ap, subst, _∙_}
 use mathlib.Core.Bool.{Bool, true, false, cond, _||_}
 use mathlib.Core.List.{List, [], _∷_}
 use native.Mathlib.Omega.{arith}
@@ -38,10 +38,21 @@ unfoldable pub meetsAll : Met → List Took → Met
 meetsAll m [] = m
 meetsAll m (x ∷ xs) = meetsAll (meets m x) xs
 
--- A tracker with other things stored.
-abbrev pub storing : Tracker → Stored → Tracker
-storing t stored =
-    record { settings = t .settings; accepted = t .accepted; packet = t .packet; at = t .at; stored = stored; frame = t .frame }
+-- A tracker with another count of packets and other things stored, and one with another count alone.
+abbrev pub storing : Tracker → ℕ → Stored → Tracker
+storing t packets stored =
+    record {
+      settings = t .settings;
+      accepted = t .accepted;
+      packets = packets;
+      packet = t .packet;
+      at = t .at;
+      stored = stored;
+      frame = t .frame;
+    }
+
+abbrev pub counting : Tracker → ℕ → Tracker
+counting t packets = storing t packets (t .stored)
 
 pub record SameStored (m : Met) (x y : Stored) : Type 0 where
   pub ihw : m .ihw ≡ true → x .ihw ≡ y .ihw
@@ -50,25 +61,29 @@ pub record SameStored (m : Met) (x y : Stored) : Type 0 where
   pub cdw : m .cdw ≡ true → x .cdw ≡ y .cdw
 
 pub record Same (m : Met) (t u : Tracker) : Type 0 where
+  pub packets : ℕ
   pub stored : Stored
-  pub is : storing t stored ≡ u
+  pub is : storing t packets stored ≡ u
   pub same : SameStored m (t .stored) stored
 
 pub carried : {m : Met} {t t′ u u′ : Tracker} → t ≡ t′ → u ≡ u′ → Same m t′ u′ → Same m t u
 carried e e′ s = rw (e, e′) s
 
--- The second tracker, as the first with the second's things.
+-- The second tracker, as the first with the second's count and things.
 abbrev pub other : {m : Met} {t u : Tracker} → Same m t u → Tracker
-other {t = t} s = storing t (s .stored)
+other {t = t} s = storing t (s .packets) (s .stored)
 
 pub itself : {m : Met} {t u : Tracker} (s : Same m t u) → Same m t (other s)
-itself s = record { stored = s .stored; is = refl; same = s .same }
+itself s = record { packets = s .packets; stored = s .stored; is = refl; same = s .same }
 
--- With all met they are the same.
-pub all-same : {m : Met} {t u : Tracker} → Same m t u → m .ihw ≡ true → m .internal ≡ true → m .cdw ≡ true → t ≡ u
-all-same {t = t} s i n c =
+-- With all met they are the same but for the count.
+pub all-same : {m : Met} {t u : Tracker} → Same m t u → m .ihw ≡ true → m .internal ≡ true → m .cdw ≡ true
+    → counting t (u .packets) ≡ u
+all-same {t = t} {u} s i n c =
     let same = s .same in
-    (λ k. storing t (record { ihw = same .ihw i k; tdh = same .tdh n k; internal = same .internal n k; cdw = same .cdw c k })) ∙ s .is
+    let count : u .packets ≡ s .packets = sym (ap (λ (x : Tracker). x .packets) (s .is)) in
+    (λ k. storing t (count k)
+    (record { ihw = same .ihw i k; tdh = same .tdh n k; internal = same .internal n k; cdw = same .cdw c k })) ∙ s .is
 
 -- What a word was taken as, by a tracker.
 abbrev tookBy : Tracker → Word → Took
@@ -89,6 +104,7 @@ same-next : {m : Met} {t u : Tracker} (w : Word) → Same m t u
     → Same (meets m (tookBy t w)) (nextTracker t (takenAs t w) w) (nextTracker u (takenAs u w) w)
 same-next {t = t} w s =
     record {
+      packets = s .packets;
       stored = nextStored (takenAs t w .word) (t .at .seen) w (s .stored);
       is = ap (λ (x : Tracker). nextTracker x (takenAs x w) w) (s .is);
       same = stored-same (tookBy t w) (t .stored) (s .stored) (s .same);

@@ -11,17 +11,17 @@ use lib.Seq.{take-all}
 use Rattle.words.specs.declared.Word.{Word}
 use Rattle.words.specs.Word.{wordOf}
 use Rattle.packet.specs.declared.Packet.{Packet}
-use Rattle.packet.specs.Packet.{inRange, maxWords}
+use Rattle.packet.specs.Packet.{inRange, maxWords, mostPackets}
 use Rattle.words.specs.Lists.{Each}
 use Rattle.records.specs.Records.{room}
 use Rattle.cdp_running.specs.declared.Tracker.{Tracker}
 use Rattle.cdp_running.specs.declared.PacketAnswer.{PacketAnswer}
-use Rattle.cdp_running.specs.Tracker.{Good, acceptOf, packetCall}
+use Rattle.cdp_running.specs.Tracker.{Good, acceptOf}
 use Rattle.cdp_running.specs.Next.{nextTracker}
 use Rattle.cdp_running.specs.Word as Word
 use Rattle.cdp_running.specs.Word.{TakenWord, Outcome, taken, refused, wordCall, takenAs}
 use Rattle.cdp_running.proofs.Good.{good-accept, good-next, good-reset}
-use Rattle.cdp_running.proofs.Outcome.{taken-admitted, next-is}
+use Rattle.cdp_running.proofs.Outcome.{packet-cases, taken-admitted, next-is}
 use Rattle.payload.specs.Payload.{Run, further, wordCalls, payloadCalls, total}
 use Rattle.payload.proofs.Words.{payload-total}
 use Rattle.forgetting.specs.Calls.{Call, packet, word, payload, reset, after, run, tookIn, tookOf, took, wordsIn, Took}
@@ -29,24 +29,25 @@ use Rattle.forgetting.specs.Forget.{NoReset}
 
 pub data Walk : Tracker → List Word → Tracker → Type 0 where
   here : {t : Tracker} → Walk t [] t
-  accepts : {t u : Tracker} {ws : List Word} (p : Packet) → inRange p ≡ true → Walk (acceptOf t p) ws u → Walk t ws u
+  accepts : {t u : Tracker} {ws : List Word} (p : Packet) → inRange p ≡ true → t .packets < mostPackets
+      → Walk (acceptOf t p) ws u → Walk t ws u
   takes : {t u : Tracker} {ws : List Word} (w : Word) → t .accepted ≡ true → t .at .count < maxWords
       → Walk (nextTracker t (takenAs t w) w) ws u
       → Walk t (w ∷ ws) u
 
 pub walk-good : {t u : Tracker} {ws : List Word} → Walk t ws u → Good t → Good u
 walk-good here g = g
-walk-good (accepts {t = t} p e rest) g = walk-good rest (good-accept t p g e)
+walk-good (accepts {t = t} p e few rest) g = walk-good rest (good-accept t p g e few)
 walk-good (takes {t = t} w have low rest) g = walk-good rest (good-next t w g have low)
 
 pub walk-settings : {t u : Tracker} {ws : List Word} → Walk t ws u → u .settings ≡ t .settings
 walk-settings here = refl
-walk-settings (accepts p e rest) = walk-settings rest
+walk-settings (accepts p e few rest) = walk-settings rest
 walk-settings (takes w have low rest) = walk-settings rest
 
 walk-append : {t m u : Tracker} {xs ys : List Word} → Walk t xs m → Walk m ys u → Walk t (xs ++ ys) u
 walk-append here rest = rest
-walk-append (accepts p e first) rest = accepts p e (walk-append first rest)
+walk-append (accepts p e few first) rest = accepts p e few (walk-append first rest)
 walk-append (takes w have low first) rest = takes w have low (walk-append first rest)
 
 -- Of a word call.
@@ -88,14 +89,9 @@ payload-walk t b places = at (eqb (length b % 10) 0) (t .accepted)
 
 -- Of a call that is no reset, and of calls one after the other.
 pub call-walk : (t : Tracker) (c : Call) → NoReset c → Walk t (wordsIn (tookOf t c)) (after t c)
-unfolding packetCall tookIn wordsIn
-call-walk t (packet p) _ = at (inRange p) refl
-  where
-    at : (b : Bool) → inRange p ≡ b
-        → Walk t [] (cond {A = PacketAnswer} b (record { tracker = acceptOf t p; refusal = 0 })
-        (record { tracker = t; refusal = 5 }) .tracker)
-    at true e = accepts p e here
-    at false e = here
+unfolding tookIn wordsIn
+call-walk t (packet p) _ =
+    packet-cases (λ (r : PacketAnswer). Walk t [] (r .tracker)) t p (λ e few. accepts p e few here) here here
 call-walk t (word b buffer) _ = at (wordCall t b (room buffer)) refl
   where
     at : (o : Outcome) → wordCall t b (room buffer) ≡ o

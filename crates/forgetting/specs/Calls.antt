@@ -1,8 +1,9 @@
 -- Calls one after the other, over the definitions of the calls: what each leaves, what it answers, and which words it took.
 -- Assumes nothing.
-use Prim.Native.Nat.{ℕ}
-use mathlib.Core.Bool.{Bool}
+use Prim.Native.Nat.{ℕ, _+_}
+use mathlib.Core.Bool.{Bool, cond}
 use mathlib.Core.List.{List, [], _∷_, _++_}
+use lib.Dec.{eqb}
 use lib.ListN.{take, drop, length}
 use Rattle.words.specs.declared.Word.{Word}
 use Rattle.words.specs.Word.{wordBytes, wordOf}
@@ -56,6 +57,14 @@ answer t reset = reset
 unfoldable pub answers : Tracker → List Call → List Answer
 answers t [] = []
 answers t (c ∷ calls) = answer t c ∷ answers (after t c) calls
+
+-- 02, ticket 7, "the count of packets accepted since the start": the packets that calls accepted, by their answers.
+unfoldable pub acceptedIn : List Answer → ℕ
+acceptedIn [] = 0
+acceptedIn (packet refusal ∷ rest) = cond (eqb refusal 0) 1 0 + acceptedIn rest
+acceptedIn (word told buffer ∷ rest) = acceptedIn rest
+acceptedIn (payload words records refusal buffer ∷ rest) = acceptedIn rest
+acceptedIn (reset ∷ rest) = acceptedIn rest
 
 -- The bytes of a call, and the word calls that it makes.
 abbrev pub bytesOf : Call → List ℕ

@@ -9,6 +9,7 @@ use Rattle.khandzorul.specs.declared.PayloadNumbers.{PayloadNumbers}
 use Rattle.khandzorul.specs.Calls.{PacketOn, ResetOn, WordOn, PayloadOn}
 use Rattle.forgetting.specs.Calls as C
 use Rattle.forgetting.specs.Calls.{Call}
+use Rattle.forgetting.specs.Forget.{bare}
 
 -- What a caller sees: the answer, and the final content of the record buffer.
 pub data Seen : Type 0 where
@@ -42,8 +43,20 @@ unfoldable pub allKinds : List Seen → List (List ℕ)
 allKinds [] = []
 allKinds (s ∷ seen) = kindsSeen s ∷ allKinds seen
 
--- What callers of two arrays see, of the calls and of later ones, and the numbers at the end.
-pub record ForgottenOnArrays (met : Type 0) (seen seen′ later later′ : List Seen) (z z′ : List ℕ) : Type 0 where
+-- What is seen, without the last number of each record.
+abbrev pub bareSeen : Seen → Seen
+bareSeen (packet refusal) = packet refusal
+bareSeen (word n buffer) = word n (bare (n .records) buffer)
+bareSeen (payload n buffer) = payload n (bare (n .records) buffer)
+bareSeen (reset refusal) = reset refusal
+
+unfoldable pub allBare : List Seen → List Seen
+allBare [] = []
+allBare (s ∷ seen) = bareSeen s ∷ allBare seen
+
+-- What callers of two arrays see, of the calls and of later ones, and the numbers at the end. `equally` is that both had accepted equally many packets.
+pub record ForgottenOnArrays (met equally : Type 0) (seen seen′ later later′ : List Seen) (z z′ : List ℕ) : Type 0 where
   pub kinds-agree : allKinds (seen ++ later) ≡ allKinds (seen′ ++ later′)
-  pub numbers-agree : met → z ≡ z′
-  pub seen-agree : met → later ≡ later′
+  pub numbers-agree : met → equally → z ≡ z′
+  pub seen-agree : met → equally → later ≡ later′
+  pub bare-agree : met → allBare later ≡ allBare later′

@@ -13,19 +13,18 @@ use Rattle.words.specs.Tdh.{internalTrigger}
 use Rattle.words.proofs.Bits.{bits-below}
 use Rattle.packet.specs.declared.Settings.{Settings}
 use Rattle.packet.specs.declared.Packet.{Packet}
-use Rattle.packet.specs.Packet.{inRange}
 use Rattle.payload_fsm.specs.Kinds.{isTdh}
 use Rattle.payload_fsm.proofs.Rows.{choice}
 use Rattle.stored.specs.declared.StoredTdh.{StoredTdh}
 use Rattle.stored.specs.declared.InternalTdh.{InternalTdh}
 use Rattle.cdp_running.specs.declared.Tracker.{Tracker}
 use Rattle.cdp_running.specs.declared.PacketAnswer.{PacketAnswer}
-use Rattle.cdp_running.specs.Tracker.{Good, startOf, resetOf, acceptOf, packetCall}
+use Rattle.cdp_running.specs.Tracker.{Good, startOf, resetOf, packetCall}
 use Rattle.cdp_running.specs.Word as Word
 use Rattle.cdp_running.specs.Word.{Outcome, taken, refused, takenAs, wordCall}
 use Rattle.cdp_running.specs.Next.{nextTracker}
 use Rattle.cdp_running.proofs.Good.{good-start, good-reset, good-accept, good-next}
-use Rattle.cdp_running.proofs.Outcome.{taken-admitted, next-is}
+use Rattle.cdp_running.proofs.Outcome.{packet-cases, taken-admitted, next-is}
 use Rattle.payload.specs.Payload.{Run, wordsFrom, payloadCall}
 use Rattle.payload.proofs.Run.{step-taken, step-refused}
 use Rattle.tracker_array.specs.Array.{encodeOf, Sized}
@@ -61,15 +60,13 @@ module _ (t : Tracker) (k : Kept t) where
       (good-reset t (k .0), record { period = k .1 .period; orbit = k .1 .orbit; internal-orbit = k .1 .internal-orbit })
 
   pub kept-packet : (p : Packet) → Kept (packetCall t p .tracker)
-  unfolding packetCall
-  kept-packet p = at (inRange p) refl
-    where
-      at : (b : Bool) → inRange p ≡ b
-          → Kept (cond {A = PacketAnswer} b (record { tracker = acceptOf t p; refusal = 0 })
-          (record { tracker = t; refusal = 5 }) .tracker)
-      at true e =
-          (good-accept t p (k .0) e, record { period = k .1 .period; orbit = k .1 .orbit; internal-orbit = k .1 .internal-orbit })
-      at false e = k
+  kept-packet p =
+      packet-cases (λ (r : PacketAnswer). Kept (r .tracker)) t p
+      (λ e h. (
+        good-accept t p (k .0) e h,
+        record { period = k .1 .period; orbit = k .1 .orbit; internal-orbit = k .1 .internal-orbit },
+      ))
+      k k
 
   kept-taken : (bytes : List ℕ) (places : ℕ) (o : Outcome) → wordCall t bytes places ≡ o
       → Kept (Word.wordAnswer t o .tracker)

@@ -104,6 +104,7 @@ quietNext t n =
     record {
       settings = t .settings;
       accepted = t .accepted;
+      packets = t .packets;
       packet = t .packet;
       at = record { fsm = t .at .fsm; count = t .at .count + n; seen = true };
       stored = t .stored;

@@ -36,6 +36,8 @@ good-quiet t n g have h =
       ihw-present = g .ihw-present;
       tdh-present = g .tdh-present;
       fresh = λ e. absurd (true≢false (sym have ∙ e));
+      counted = g .counted;
+      few = g .few;
     }
 
 -- The lanes whose data words are quiet.
@@ -84,6 +86,7 @@ module _ (b : List ℕ) (byte : (i : ℕ) → getD b i 0 < 256) where
       ∙ (λ i. preceded (1 + suc n) [] (wordsFrom m (record {
         settings = t .settings;
         accepted = t .accepted;
+        packets = t .packets;
         packet = t .packet;
         at = record { fsm = t .at .fsm; count = many i; seen = true };
         stored = t .stored;

@@ -44,18 +44,18 @@ use Rattle.in_place.proofs.Storing.{counts}
 use Rattle.in_place.proofs.Kept.{kept-word, good-after}
 
 -- Rows that give no record are written by writing nothing.
-pub quiet-wrote : (here : ℕ) (rows : List Row) (buffer : List ℕ) → silent rows ≡ true
-    → WritePost here (padded rows) buffer (Records 0) buffer
+pub quiet-wrote : (here packet : ℕ) (rows : List Row) (buffer : List ℕ) → silent rows ≡ true
+    → WritePost here packet (padded rows) buffer (Records 0) buffer
 unfolding flat
-quiet-wrote here rows buffer s =
-    let none : given here (padded rows) ≡ [] = given-padded here rows ∙ unheard here rows s in
+quiet-wrote here packet rows buffer s =
+    let none : given here packet (padded rows) ≡ [] = given-padded here packet rows ∙ unheard here packet rows s in
     let fits = le-ltb (room buffer) 0 (omega arith) in
     record { answer = simp (none, fits); number = simp (none, fits); value = simp (none, fits); buffer-is = simp (none, fits) }
 
-pub of-rows : {here : ℕ} {rows other : List Row} {buffer after : List ℕ} {x : Written} → rows ≡ other
-    → WritePost here rows buffer x after
-    → WritePost here other buffer x after
-of-rows {here} {rows} {other} {buffer} {after} {x} e w = subst (λ (l : List Row). WritePost here l buffer x after) e w
+pub of-rows : {here packet : ℕ} {rows other : List Row} {buffer after : List ℕ} {x : Written} → rows ≡ other
+    → WritePost here packet rows buffer x after
+    → WritePost here packet other buffer x after
+of-rows {here} {packet} {buffer = buffer} {after} {x} e w = subst (λ (l : List Row). WritePost here packet l buffer x after) e w
 
 -- What is asked of the six places is asked of the rows.
 pub kind-silent : (t : Tracker) (a : Advanced) (w : Word) (kind : ItsPayloadWord) {r : Bool} {rows : List Row}
@@ -81,11 +81,11 @@ module _ (a : List ℕ) (w : Word) where
   abbrev rows : List Row
   rows = padded (rowsOf t (takenAs t w) w)
 
-  records-are : given (positionNow t) rows ≡ recordsOf t w
+  records-are : given (positionNow t) (t .packets) rows ≡ recordsOf t w
   unfolding recordsOf
-  records-are = given-padded (positionNow t) (rowsOf t (takenAs t w) w)
+  records-are = given-padded (positionNow t) (t .packets) (rowsOf t (takenAs t w) w)
 
-  module _ {buffer after : List ℕ} {x : Written} (wrote : WritePost (positionNow t) rows buffer x after) where
+  module _ {buffer after : List ℕ} {x : Written} (wrote : WritePost (positionNow t) (t .packets) rows buffer x after) where
     answered : x ≡ cond (exceed (recordsOf t w) (room buffer)) NoRoom (Records (length (recordsOf t w)))
     answered = rw records-are at (wrote .answer)
 
@@ -97,12 +97,12 @@ module _ (a : List ℕ) (w : Word) where
 
     pub step-full : x ≡ NoRoom → StepInPlace a w buffer NoRoom a after
     step-full e =
-        record { wrote = subst (λ (y : Written). WritePost (positionNow t) rows buffer y after) e wrote; numbers = simp (no-room e) }
+        record { wrote = subst (λ (y : Written). WritePost (positionNow t) (t .packets) rows buffer y after) e wrote; numbers = simp (no-room e) }
 
     pub step-done : {n : ℕ} {l : List ℕ} → x ≡ Records n → l ≡ encodeOf (nextTracker t (takenAs t w) w)
         → StepInPlace a w buffer (Records n) l after
     step-done e p =
-        record { wrote = subst (λ (y : Written). WritePost (positionNow t) rows buffer y after) e wrote; numbers = simp (has-room e) p }
+        record { wrote = subst (λ (y : Written). WritePost (positionNow t) (t .packets) rows buffer y after) e wrote; numbers = simp (has-room e) p }
 
 -- The same, with what the code computed on the way.
 pub as-stored : (t : Tracker) {a : Advanced} {w v : Word} {l : List ℕ} → a ≡ takenAs t w → w ≡ v

@@ -43,6 +43,7 @@ module _ (t : Tracker) (s : State) (w : Word) where
       encodeOf (record {
         settings = t .settings;
         accepted = t .accepted;
+        packets = t .packets;
         packet = t .packet;
         at = record { fsm = record { state = s }; count = t .at .count + 1; seen = seen };
         stored = stored;
@@ -154,11 +155,12 @@ by-stores l a w kind h p e q r = r ∙ (λ i. storesOf (sym e i) w (p i) (q i)) 
 
 -- A packet that is accepted, and a reset.
 pub accepts : (l : List ℕ) (p : Packet) → GoodArray l
-    → set (set (sets (set l P.accepted 1) P.packet (packetNumbers p)) P.count 0) P.seen 0
+    → set (set (sets (set (set l P.packets (place l P.packets + 1)) P.accepted 1) P.packet (packetNumbers p)) P.count 0) P.seen 0
     ≡ encodeOf (acceptOf (trackerIn l) p)
 unfolding encodeOf
 accepts l p h =
-    ap (λ (x : List ℕ). set (set (sets (set x P.accepted 1) P.packet (packetNumbers p)) P.count 0) P.seen 0) (h .is .numbers)
+    ap (λ (x : List ℕ). set (set (sets (set (set x P.packets (place l P.packets + 1)) P.accepted 1) P.packet (packetNumbers p)) P.count 0) P.seen 0)
+    (h .is .numbers)
 
 pub resets : (l : List ℕ) → GoodArray l → set l P.state 0 ≡ encodeOf (resetOf (trackerIn l))
 unfolding encodeOf

@@ -48,5 +48,6 @@ pub record PayloadInPlace (a bytes buffer : List ℕ) (r : PayloadTold) (after b
 
 -- One word that the packet still takes: its records are written, and the numbers are those of the tracker after it; with no room for them both stay.
 pub record StepInPlace (a : List ℕ) (w : Word) (buffer : List ℕ) (r : Written) (after buffer-after : List ℕ) : Type 0 where
-  pub wrote : WritePost (positionNow (trackerIn a)) (padded (rowsOf (trackerIn a) (takenAs (trackerIn a) w) w)) buffer r buffer-after
+  pub wrote : WritePost (positionNow (trackerIn a)) (trackerIn a .packets) (padded (rowsOf (trackerIn a) (takenAs (trackerIn a) w) w))
+      buffer r buffer-after
   pub numbers : after ≡ cond (exceed (recordsOf (trackerIn a) w) (room buffer)) a (encodeOf (nextTracker (trackerIn a) (takenAs (trackerIn a) w) w))

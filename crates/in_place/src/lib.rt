@@ -23,6 +23,7 @@ mod stores;
 use cdp_running::Taken;
 use cdp_running::Told;
 use packet::MAX_WORDS;
+use packet::MOST_PACKETS;
 use payload_fsm::ItsPayloadWord;
 use payload_fsm::State;
 use records::Written;
@@ -40,7 +41,7 @@ pub struct PayloadTold {
     pub refusal: u8,
 }
 
-// A packet, by its seven numbers. Refusal 5 leaves everything.
+// A packet, by its seven numbers. Refusals 5 and 10 leave everything.
 pub fn packet(
     a: &mut [u64],
     position: u64,
@@ -57,6 +58,9 @@ pub fn packet(
 {
     if !packet::are_in_range(position, orbit, trigger, bc, page, stop, format) {
         return packet::REFUSED_PACKET;
+    }
+    if a[place::PACKETS] >= (MOST_PACKETS as u64) {
+        return packet::REFUSED_LAST_PACKET;
     }
     stores::packet(a, position, orbit, trigger, bc, page, stop, format);
     0

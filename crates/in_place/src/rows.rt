@@ -5,7 +5,8 @@ ghost use mathlib.Core.Bool.{true};
 ghost use Rattle.payload_fsm.specs.Step.{isThree};
 ghost use Rattle.records.specs.Records.{padded, silent, WritePost};
 ghost use Rattle.cdp_running.specs.Word.{rowsOf};
-ghost use Rattle.tracker_array.specs.Read.{trackerIn};
+ghost use Rattle.tracker_array.specs.Place as P;
+ghost use Rattle.tracker_array.specs.Read.{place, trackerIn};
 ghost use Rattle.tracker_array.specs.Good.{GoodArray};
 use payload_fsm::Advanced;
 use payload_fsm::ItsPayloadWord;
@@ -128,10 +129,12 @@ fn is_silent(a: &[u64], taken: Advanced, word: Word) -> bool
 // Its records, at the front of a buffer.
 pub(crate) fn write(a: &[u64], taken: Advanced, word: Word, here: u64, out: &mut [u64]) -> Written
     requires { ⌜ GoodArray (now a) ⌝ }
-    ensures { λ r. ⌜ WritePost here (padded (rowsOf (trackerIn (now (a .entry))) taken word)) (now (out .entry)) r (now (out .exit)) ⌝ }
+    ensures { λ r. ⌜ WritePost here (place (now (a .entry)) P.packets) (padded (rowsOf (trackerIn (now (a .entry))) taken word))
+        (now (out .entry)) r (now (out .exit)) ⌝ }
 {
     if is_silent(a, taken, word) {
         return Written::Records(0);
     }
-    records::write(out, here, rows(a, taken, word))
+    let rows = rows(a, taken, word);
+    records::write(out, here, a[place::PACKETS], rows)
 }

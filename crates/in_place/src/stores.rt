@@ -141,7 +141,7 @@ pub(crate) fn word(a: &mut [u64], taken: Advanced, word: Word, here: u64)
     }
 }
 
-// The numbers after a packet that is accepted.
+// The numbers after a packet that is accepted. No other call stores how many were.
 pub(crate) fn packet(
     a: &mut [u64],
     position: u64,
@@ -156,6 +156,7 @@ pub(crate) fn packet(
     ensures { λ _. ⌜ now (a .exit) ≡ encodeOf (acceptOf (trackerIn (now (a .entry)))
         (record { position = position; orbit = orbit; trigger = trigger; bc = bc; page = page; stop = stop; format = format })) ⌝ }
 {
+    a[place::PACKETS] = a[place::PACKETS] + 1;
     a[place::ACCEPTED] = 1;
     a[place::POSITION] = position;
     a[place::ORBIT] = orbit;

@@ -9,7 +9,6 @@ use lib.Dec.{eqb}
 use lib.ListN.{length, take}
 use borrow.Author.Tests.{eq-eqb}
 use Rattle.packet.specs.declared.Packet.{Packet}
-use Rattle.packet.specs.Packet.{inRange}
 use Rattle.words.specs.Lists.{over}
 use Rattle.records.specs.Records.{Record, flat, room}
 use Rattle.cdp_running.specs.declared.Tracker.{Tracker}
@@ -17,6 +16,7 @@ use Rattle.cdp_running.specs.declared.Told.the-variants.{Refused}
 use Rattle.cdp_running.specs.Tracker.{startOf, resetOf, packetCall}
 use Rattle.cdp_running.specs.Word as Word
 use Rattle.cdp_running.specs.Word.{Outcome, taken, refused, wordCall}
+use Rattle.cdp_running.proofs.Outcome.{packet-stays}
 use Rattle.payload.specs.Payload.{Run, stop, wordsFrom, payloadCall}
 use Rattle.payload.proofs.Run.{step-taken, step-refused}
 use Rattle.tracker_array.specs.Array.{size, encodeOf, IsTracker}
@@ -73,13 +73,12 @@ start-refused a s {r} {after} w h = at (eqb (length a) size) (areSettings s) (w 
     at false false p q = q
 
 pub packet-refused : (a : List ℕ) (p : Packet) {r : ℕ} {after : List ℕ} → PacketOn a p r after → (r ≡ 0 → ⊥) → after ≡ a
-unfolding packetCall
-packet-refused a p {r} {after} w h = at (decide a) (inRange p) refl
+packet-refused a p {r} {after} w h = at (decide a)
   where
-    at : Decided a → (b : Bool) → inRange p ≡ b → after ≡ a
-    at (is t i) true e = absurd (h (simp e at (w .answer .is t i)))
-    at (is t i) false e = (simp e at (w .tracker .is t i)) ∙ sym (i .numbers)
-    at (none other) b e = w .tracker .none other
+    at : Decided a → after ≡ a
+    at (is t i) =
+        w .tracker .is t i ∙ ap encodeOf (packet-stays t p (λ e. h (w .answer .is t i ∙ e))) ∙ sym (i .numbers)
+    at (none other) = w .tracker .none other
 
 pub reset-refused : (a : List ℕ) {r : ℕ} {after : List ℕ} → ResetOn a r after → (r ≡ 0 → ⊥) → after ≡ a
 reset-refused a {r} {after} w h = at (decide a)

@@ -25,6 +25,10 @@ inRange p =
 abbrev pub maxWords : ℕ
 maxWords = 4096
 
+-- 02, ticket 7, "the count of packets accepted since the start .. It stops at 4,294,967,295": so many packets are accepted, and none after them.
+abbrev pub mostPackets : ℕ
+mostPackets = 4294967295
+
 -- ".. times 16 in format 0, times 10 in format 2": from one word to the next.
 abbrev pub stride : ℕ → ℕ
 stride format = cond (eqb format 0) 16 10

@@ -8,6 +8,9 @@ ghost use Rattle.packet.specs.Packet.{inRange, stride, positionOf, GoodP
 // Words that a packet takes.
 pub const MAX_WORDS: u16 = 4096;
 
+// Packets that a tracker accepts. 02, ticket 7: their count stops here.
+pub const MOST_PACKETS: u32 = 4_294_967_295;
+
 // The largest position of a packet, 2^62.
 pub const MAX_POSITION: u64 = 0x4000_0000_0000_0000;
 
@@ -22,6 +25,9 @@ pub const REFUSED_FULL: u8 = 3;
 pub const REFUSED_ROOM: u8 = 4;
 
 pub const REFUSED_PACKET: u8 = 5;
+
+// A packet beyond the last count.
+pub const REFUSED_LAST_PACKET: u8 = 10;
 
 // Refusals of a file, beside those of its packets.
 pub const REFUSED_FILE: u8 = 6;

@@ -57,7 +57,7 @@ module _ (t : Tracker) (bytes : List ℕ) (ten : length bytes ≡ 10) (have : t 
       })
   unfolding wordCall takenOf recordsOf
   silent-call places =
-      let none = unheard (positionNow t) (rowsOf t (takenAs t (wordOf bytes)) (wordOf bytes)) quiet in
+      let none = unheard (positionNow t) (t .packets) (rowsOf t (takenAs t (wordOf bytes)) (wordOf bytes)) quiet in
       simp (eq-eqb _ _ ten, have, lt-leb _ _ low, none, le-ltb places 0 (omega arith))
 
 pub silent-step : (n : ℕ) (t : Tracker) (b : List ℕ) (places : ℕ) → length (take 10 b) ≡ 10 → t .accepted ≡ true

@@ -13,7 +13,7 @@ pub rows-unique : (rows : List Row) {first second : List Row} → first ≡ padd
     → first ≡ second
 rows-unique rows = unique
 
-pub write-unique : {position : ℕ} {rows : List Row} {buffer after after′ : List ℕ} {first second : Written}
-    → WritePost position rows buffer first after → WritePost position rows buffer second after′
+pub write-unique : {position packet : ℕ} {rows : List Row} {buffer after after′ : List ℕ} {first second : Written}
+    → WritePost position packet rows buffer first after → WritePost position packet rows buffer second after′
     → (first ≡ second) × (after ≡ after′)
 write-unique a b = (unique (a .answer) (b .answer), unique (a .buffer-is) (b .buffer-is))

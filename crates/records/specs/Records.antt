@@ -11,18 +11,20 @@ use Rattle.records.specs.declared.Row.{Row}
 use Rattle.records.specs.declared.Written.{Written}
 use Rattle.records.specs.declared.Written.the-variants.{Records, NoRoom}
 
--- "A record is four 64-bit numbers: position, code, first, second."
+-- "A record is four 64-bit numbers: position, code, first, second"; 02, ticket 7: "Each record gains a fifth number, the count of packets accepted since the
+-- start, beginning at 1. .. The record buffer is five numbers a record everywhere".
 abbrev pub recordWidth : ℕ
-recordWidth = 4
+recordWidth = 5
 
 pub record Record : Type 0 where
   pub position : ℕ
   pub code : ℕ
   pub first : ℕ
   pub second : ℕ
+  pub packet : ℕ
 
 abbrev pub numbers : Record → List ℕ
-numbers r = r .position ∷ r .code ∷ r .first ∷ r .second ∷ []
+numbers r = r .position ∷ r .code ∷ r .first ∷ r .second ∷ r .packet ∷ []
 
 -- Records one after the other, as numbers.
 unfoldable pub flat : List Record → List ℕ
@@ -44,13 +46,14 @@ mostRecords = 6
 abbrev pub padded : List Row → List Row
 padded rows = rows ++ replicate (mostRecords - length rows) none
 
-abbrev pub recordAt : ℕ → Row → Record
-recordAt position row = record { position = position; code = row .code; first = row .first; second = row .second }
+-- The record of a row, of a word at a position in the packet of that count.
+abbrev pub recordAt : ℕ → ℕ → Row → Record
+recordAt position packet row = record { position = position; code = row .code; first = row .first; second = row .second; packet = packet }
 
--- The records that rows give at a position: those whose condition holds, in order.
-unfoldable pub given : ℕ → List Row → List Record
-given position [] = []
-given position (row ∷ rows) = cond (row .on) (recordAt position row ∷ []) [] ++ given position rows
+-- The records that rows give there: those whose condition holds, in order.
+unfoldable pub given : ℕ → ℕ → List Row → List Record
+given position packet [] = []
+given position packet (row ∷ rows) = cond (row .on) (recordAt position packet row ∷ []) [] ++ given position packet rows
 
 -- How many they are, and whether there are any, told without making them (proofs/Given.antt, `counted`, `unheard`).
 unfoldable pub count : List Row → ℕ
@@ -64,7 +67,7 @@ anyOn (row ∷ rows) = row .on || anyOn rows
 abbrev pub silent : List Row → Bool
 silent rows = not (anyOn rows)
 
--- "A buffer's room is its length divided by four, rounded down."
+-- "A buffer's room is its length divided by four, rounded down": since 02's ticket 7, by five.
 abbrev pub room : List ℕ → ℕ
 room buffer = length buffer / recordWidth
 
@@ -81,8 +84,9 @@ abbrev pub writtenOf : Written → ℕ
 writtenOf (Records n) = n
 writtenOf NoRoom = 0
 
-pub record WritePost (position : ℕ) (rows : List Row) (buffer : List ℕ) (r : Written) (after : List ℕ) : Type 0 where
-  pub answer : r ≡ cond (exceed (given position rows) (room buffer)) NoRoom (Records (length (given position rows)))
-  pub number : refusalOf r ≡ cond (exceed (given position rows) (room buffer)) 4 0
-  pub value : writtenOf r ≡ cond (exceed (given position rows) (room buffer)) 0 (length (given position rows))
-  pub buffer-is : after ≡ cond (exceed (given position rows) (room buffer)) buffer (over (flat (given position rows)) buffer)
+-- What writing a word's records gives.
+pub record WritePost (position packet : ℕ) (rows : List Row) (buffer : List ℕ) (r : Written) (after : List ℕ) : Type 0 where
+  pub answer : r ≡ cond (exceed (given position packet rows) (room buffer)) NoRoom (Records (length (given position packet rows)))
+  pub number : refusalOf r ≡ cond (exceed (given position packet rows) (room buffer)) 4 0
+  pub value : writtenOf r ≡ cond (exceed (given position packet rows) (room buffer)) 0 (length (given position packet rows))
+  pub buffer-is : after ≡ cond (exceed (given position packet rows) (room buffer)) buffer (over (flat (given position packet rows)) buffer)

@@ -2,20 +2,20 @@
 -- Assumes nothing.
 use Prim.Native.Nat.{ℕ, _+_, _≤_}
 use mathlib.Core.Path.{_≡_, refl, sym, ap}
-use mathlib.Core.Bool.{Bool, true, false, true≢false}
+use mathlib.Core.Bool.{true, false, true≢false}
 use mathlib.Core.List.{List, [], _++_, append-nil, append-assoc}
 use native.Mathlib.Nat.{add-zero, add-assoc}
 use native.Mathlib.Omega.{arith}
 use lib.ListN.{length, length-append}
 use Rattle.words.specs.Word.{wordOf}
 use Rattle.packet.specs.declared.Packet.{Packet}
-use Rattle.packet.specs.Packet.{inRange}
 use Rattle.records.specs.Records.{Record, mostRecords}
 use Rattle.cdp_running.specs.declared.Tracker.{Tracker}
+use Rattle.cdp_running.specs.declared.PacketAnswer.{PacketAnswer}
 use Rattle.cdp_running.specs.Tracker.{Good, packetCall}
 use Rattle.cdp_running.specs.Word.{Outcome, taken, refused, takenOf, wordCall, wordAnswer, recordsIn}
 use Rattle.cdp_running.proofs.Good.{good-accept, good-next}
-use Rattle.cdp_running.proofs.Outcome.{taken-admitted, next-is, records-are}
+use Rattle.cdp_running.proofs.Outcome.{packet-cases, taken-admitted, next-is, records-are}
 use Rattle.cdp_running.proofs.Fine.{few-records}
 use Rattle.bench_file.specs.declared.Found.{Found}
 use Rattle.bench_file.specs.declared.Found.the-variants as F
@@ -34,12 +34,7 @@ use Rattle.report.proofs.Lines.{lines-append}
 
 -- A packet call and a word call keep the tracker good, and a word gives at most six records.
 good-packet : (t : Tracker) (p : Packet) → Good t → Good (packetCall t p .tracker)
-unfolding packetCall
-good-packet t p g = at (inRange p) refl
-  where
-    at : (b : Bool) → inRange p ≡ b → Good (packetCall t p .tracker)
-    at true e = simp e (good-accept t p g e)
-    at false e = simp e g
+good-packet t p g = packet-cases (λ (r : PacketAnswer). Good (r .tracker)) t p (good-accept t p g) g g
 
 good-word : (t : Tracker) (bytes : List ℕ) → Good t → Good (wordAnswer t (wordCall t bytes mostRecords) .tracker)
     × (length (recordsIn (wordCall t bytes mostRecords)) ≤ mostRecords)

@@ -21,7 +21,14 @@ lines-append (x ∷ xs) ys =
 
 -- The record whose numbers stand from a place on.
 abbrev pub recordFrom : List ℕ → ℕ → Record
-recordFrom d at = record { position = getD d at 0; code = getD d (at + 1) 0; first = getD d (at + 2) 0; second = getD d (at + 3) 0 }
+recordFrom d at =
+    record {
+      position = getD d at 0;
+      code = getD d (at + 1) 0;
+      first = getD d (at + 2) 0;
+      second = getD d (at + 3) 0;
+      packet = getD d (at + 4) 0;
+    }
 
 -- One record more.
 records-more : (i : ℕ) (d : List ℕ) → recordsAt (suc i) d ≡ recordsAt i d ++ (recordFrom d (recordWidth * i) ∷ [])
@@ -41,6 +48,7 @@ records-more (suc i) d =
           code = at (recordWidth * i + 1) (recordWidth * suc i + 1) (omega arith) j;
           first = at (recordWidth * i + 2) (recordWidth * suc i + 2) (omega arith) j;
           second = at (recordWidth * i + 3) (recordWidth * suc i + 3) (omega arith) j;
+          packet = at (recordWidth * i + 4) (recordWidth * suc i + 4) (omega arith) j;
         }
 
 lines-more : (i : ℕ) (d : List ℕ) → lines (recordsAt i d) ++ line (recordFrom d (recordWidth * i))

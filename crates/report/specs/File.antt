@@ -1,6 +1,6 @@
 -- 01, "Bench file": the records of a file, and all that `benchcheck` prints of it.
 -- Assumes nothing.
-use Prim.Native.Nat.{ℕ}
+use Prim.Native.Nat.{ℕ, _+_}
 use mathlib.Core.Path.{_≡_}
 use mathlib.Core.Bool.{true, cond}
 use mathlib.Core.List.{List, [], _∷_, _++_}
@@ -53,3 +53,13 @@ Accepted t (word at bytes) = wordCall t bytes mostRecords ≡ takenOf t (wordOf 
 unfoldable pub AllAccepted : Tracker → List Item → Type 0
 AllAccepted t [] = Unit
 AllAccepted t (item ∷ rest) = Accepted t item × AllAccepted (trackerAfter t item) rest
+
+-- How many packets there are among items, and the tracker after them: what it counts are the packets read (proofs/Refused.antt, `packets-read`).
+unfoldable pub packetsIn : List Item → ℕ
+packetsIn [] = 0
+packetsIn (packet p count ∷ rest) = 1 + packetsIn rest
+packetsIn (word at bytes ∷ rest) = packetsIn rest
+
+unfoldable pub trackerFrom : Tracker → List Item → Tracker
+trackerFrom t [] = t
+trackerFrom t (item ∷ rest) = trackerFrom (trackerAfter t item) rest

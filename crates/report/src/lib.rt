@@ -159,7 +159,7 @@ fn stage_step(r: Report, file: &[u8], out: &mut [u8]) -> Filled
     let stage = r.stage;
     match stage {
         Stage::Heading => Filled {
-            n: ascii::put(out, b"pos code first second\n"),
+            n: ascii::put(out, b"packet pos code first second\n"),
             report: at_stage(r, Stage::Items),
         },
         Stage::Items => item_step(r, file, out),

@@ -1,14 +1,17 @@
 -- The tests of a tracker are the invariant of cdp_running and the widths, no more and no less.
 -- Assumes nothing.
-use Prim.Native.Nat.{ℕ, _<_, _^_}
-use mathlib.Core.Path.{_≡_, refl, ap}
+use Prim.Native.Nat.{ℕ, _≤_, _<_, _^_}
+use mathlib.Core.Path.{_≡_, refl, sym, ap, _∙_}
 use mathlib.Core.Bool.{Bool, true, false, cond, _&&_}
 use mathlib.Core.Logic.{_↔_}
+use native.Mathlib.Omega.{arith}
+use lib.Dec.{ltb}
+use borrow.Author.Tests.{ltb-true, ltb-false, lt-ltb, le-ltb}
 use Rattle.words.proofs.Tests.{tests}
 use Rattle.packet.specs.declared.Settings.{Settings}
 use Rattle.packet.specs.declared.Packet.{Packet}
 use Rattle.packet.specs.Settings.{GoodSettings, settingsOf}
-use Rattle.packet.specs.Packet.{noPacket}
+use Rattle.packet.specs.Packet.{noPacket, mostPackets}
 use Rattle.payload_fsm.specs.declared.State.{State}
 use Rattle.payload_fsm.specs.declared.State.the-variants as S
 use Rattle.stored.specs.declared.StoredTdh.{StoredTdh}
@@ -20,7 +23,7 @@ use Rattle.stored.specs.Kept.{GoodIhw, GoodTdh, GoodInternal, GoodCdw, GoodFram
 use Rattle.cdp_running.specs.declared.Tracker.{Tracker}
 use Rattle.cdp_running.specs.Tracker.{Good}
 use Rattle.tracker_array.specs.Array.{Sized}
-use Rattle.tracker_array.specs.Read.{settingsGood, ihwGood, tdhGood, internalGood, cdwGood, frameGood, packetBlank, inStart, blank, isGood}
+use Rattle.tracker_array.specs.Read.{settingsGood, ihwGood, tdhGood, internalGood, cdwGood, frameGood, packetsGood, packetBlank, inStart, blank, isGood}
 use Rattle.tracker_array.proofs.State.{starts}
 
 -- Each part: its test, and what holds of it.
@@ -69,6 +72,16 @@ frame-is frames f =
       ),
     )
 
+packets-is : (accepted : Bool) (packets : ℕ)
+    → (packetsGood accepted packets ≡ true) ↔ ((accepted ≡ ltb 0 packets) × (packets ≤ mostPackets))
+packets-is true packets =
+    simp tests (λ (some, few). (sym (lt-ltb 0 packets some), few), λ (e, few). (ltb-true 0 packets (sym e), few))
+packets-is false packets =
+    simp tests (
+      λ (none, few). (sym (le-ltb 0 packets (omega arith)), few),
+      λ (e, few). (let none = ltb-false 0 packets (sym e) in omega arith, few),
+    )
+
 packet-is : (p : Packet) → (packetBlank p ≡ true) ↔ (p ≡ noPacket)
 packet-is p = (none, ap packetBlank)
   where
@@ -77,7 +90,7 @@ packet-is p = (none, ap packetBlank)
         let (position, (orbit, (trigger, (bc, (page, (stop, format)))))) = simp tests at e in
         λ j. record { position = position j; orbit = orbit j; trigger = trigger j; bc = bc j; page = page j; stop = stop j; format = format j }
 
-ruleset parts = (start-is, settings-is, ihw-is, tdh-is, internal-is, cdw-is, frame-is, packet-is, tests)
+ruleset parts = (start-is, settings-is, ihw-is, tdh-is, internal-is, cdw-is, frame-is, packets-is, packet-is, tests)
 
 -- A period that is 0 where it is absent is what the start keeps of it.
 kept : (b : Bool) (n : ℕ) → (b ≡ false → n ≡ 0) → n ≡ cond b n 0
@@ -90,8 +103,10 @@ bare t = packetBlank (t .packet) && blank t
 
 pub tests-good : (t : Tracker) → isGood t ≡ true → Good t × Sized t
 tests-good t e =
-    let (settings, (packet, (count, ((ihw, (tdh, (internal, (cdw, frame)))), (present, fresh))))) = simp parts at e in
+    let (settings, ((counted, few), (packet, (count, ((ihw, (tdh, (internal, (cdw, frame)))), (present, fresh)))))) = simp parts at e in
     let period = kept (t .settings .periodic) (t .settings .period) (settings .1 .absent) in
+    let none : t .accepted ≡ false → t .packets ≡ 0 =
+    λ o. let low = ltb-false 0 (t .packets) (sym counted ∙ o) in omega arith in
     let same : t .settings ≡ settingsOf (t .settings) =
     λ j. record {
       running = t .settings .running;
@@ -115,6 +130,7 @@ tests-good t e =
             record {
               settings = same j;
               accepted = o j;
+              packets = none o j;
               packet = packet j;
               at = record { fsm = record { state = state j }; count = count j; seen = seen j };
               stored =
@@ -126,6 +142,8 @@ tests-good t e =
                   };
               frame = frame .absent no-frame j;
             };
+        counted = counted;
+        few = few;
       },
       record { period = settings .0; orbit = tdh .0; internal-orbit = internal .0 },
     )
@@ -137,18 +155,21 @@ good-tests t g s =
     simp parts (
       (s .period, g .settings),
       (
-        range,
+        (g .counted, g .few),
         (
-          g .count,
+          range,
           (
+            g .count,
             (
-              g .stored .ihw,
               (
-                (s .orbit, g .stored .tdh),
-                ((s .internal-orbit, g .stored .internal), (g .stored .cdw, g .frame)),
+                g .stored .ihw,
+                (
+                  (s .orbit, g .stored .tdh),
+                  ((s .internal-orbit, g .stored .internal), (g .stored .cdw, g .frame)),
+                ),
               ),
+              ((g .ihw-present, g .tdh-present), simp parts at fresh),
             ),
-            ((g .ihw-present, g .tdh-present), simp parts at fresh),
           ),
         ),
       ),

@@ -147,31 +147,31 @@ in-form a long e =
 
 -- Where no packet was accepted, a tracker is one that the start gave: nothing stands in it but the settings.
 pub bare-good : (a : List ℕ) → InForm a → isOn (place a P.accepted) ≡ false
-    → (settingsGood (settingsIn a) && zerosFrom (P.unused - P.packet) P.packet a) ≡ (leb (place a P.state) 6
+    → (settingsGood (settingsIn a) && zerosFrom (P.unused - P.packets) P.packets a) ≡ (leb (place a P.state) 6
     && isGood (trackerIn a))
 unfolding numbersFrom encodeOf zerosFrom
 bare-good a f off = tests-agree _ _ there back
   where
-    there : (settingsGood (settingsIn a) && zerosFrom (P.unused - P.packet) P.packet a) ≡ true
+    there : (settingsGood (settingsIn a) && zerosFrom (P.unused - P.packets) P.packets a) ≡ true
         → (leb (place a P.state) 6 && isGood (trackerIn a)) ≡ true
     there e =
         let (set, zeros) = both (settingsGood (settingsIn a)) _ e in
-        let same : a ≡ numbersFrom P.packet 0 a ++ (replicate (P.unused - P.packet) 0
+        let same : a ≡ numbersFrom P.packets 0 a ++ (replicate (P.unused - P.packets) 0
         ++ numbersFrom (size - P.unused) P.unused a) =
-        sym (spelled size 0 a (f .long)) ∙ in-two P.packet (size - P.packet) 0 a
-        ∙ ap (λ (l : List ℕ). numbersFrom P.packet 0 a ++ l)
-        (in-two (P.unused - P.packet) (size - P.unused) P.packet a
+        sym (spelled size 0 a (f .long)) ∙ in-two P.packets (size - P.packets) 0 a
+        ∙ ap (λ (l : List ℕ). numbersFrom P.packets 0 a ++ l)
+        (in-two (P.unused - P.packets) (size - P.unused) P.packets a
         ∙ ap (λ (l : List ℕ). l ++ numbersFrom (size - P.unused) P.unused a)
-        (all-zero (P.unused - P.packet) P.packet a zeros)) in
+        (all-zero (P.unused - P.packets) P.packets a zeros)) in
         ap (λ (l : List ℕ). leb (place l P.state) 6 && isGood (trackerIn l)) same ∙ simp (set, off, or-true)
 
     back : (leb (place a P.state) 6 && isGood (trackerIn a)) ≡ true
-        → (settingsGood (settingsIn a) && zerosFrom (P.unused - P.packet) P.packet a) ≡ true
+        → (settingsGood (settingsIn a) && zerosFrom (P.unused - P.packets) P.packets a) ≡ true
     back e =
         let (low, good) = both (leb (place a P.state) 6) _ e in
         let own = written a (tracker-is a .1 (f .long, (f .form, (leb-true _ _ low, good)))) in
         let bare = tests-good (trackerIn a) good .0 .fresh off in
-        and-is _ _ .1 (both (settingsGood (settingsIn a)) _ good .0, ap (zerosFrom (P.unused - P.packet) P.packet) (own ∙ ap encodeOf bare))
+        and-is _ _ .1 (both (settingsGood (settingsIn a)) _ good .0, ap (zerosFrom (P.unused - P.packets) P.packets) (own ∙ ap encodeOf bare))
 
 pub read-as : (a : List ℕ) (t : Tracker) → IsTracker a t → trackerIn a ≡ t
 read-as a t i = ap trackerIn (i .numbers) ∙ reads-back t

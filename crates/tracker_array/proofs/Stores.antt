@@ -78,12 +78,12 @@ all-stored i to a h = let none : to - i ≡ 0 = omega arith in ap (λ (n : ℕ).
 -- A tracker's numbers stored at every place, whatever stood there.
 pub stored-all : (a : List ℕ) (t : Tracker) → length a ≡ size
     → sets (sets (sets a P.unused (replicate (size - P.unused) 0)) P.mark
-    (firstNumbers (t .settings) (t .accepted) (t .packet) (t .at))) P.stored (storedNumbers (t .stored) (t .frame))
+    (firstNumbers (t .settings) (t .accepted) (t .packets) (t .packet) (t .at))) P.stored (storedNumbers (t .stored) (t .frame))
     ≡ encodeOf t
 unfolding numbersFrom encodeOf
 stored-all a t long =
     ap (λ (l : List ℕ). sets (sets (sets l P.unused (replicate (size - P.unused) 0)) P.mark
-    (firstNumbers (t .settings) (t .accepted) (t .packet) (t .at))) P.stored (storedNumbers (t .stored) (t .frame)))
+    (firstNumbers (t .settings) (t .accepted) (t .packets) (t .packet) (t .at))) P.stored (storedNumbers (t .stored) (t .frame)))
     (sym (spelled size 0 a long))
 
 -- A tracker written to an array of its length, and to another.

@@ -28,7 +28,7 @@ size = 48
 -- The first number of every tracker, so that zeros are none: the letters KHZ and the version of the boundary, KHZ_API of include/khandzorul.h, so that an
 -- array of another version is none either.
 abbrev pub mark : ℕ
-mark = 0x4B485A04
+mark = 0x4B485A05
 
 abbrev pub flag : Bool → ℕ
 flag b = cond b 1 0
@@ -84,11 +84,11 @@ frameNumbers f = flag (f .opened) ∷ f .start ∷ []
 abbrev pub atNumbers : At → List ℕ
 atNumbers at = stateNumber (at .fsm .state) ∷ at .count ∷ flag (at .seen) ∷ []
 
--- The mark, the settings, whether a packet was accepted, the packet, and where in it the tracker is.
-abbrev pub firstNumbers : Settings → Bool → Packet → At → List ℕ
-firstNumbers settings accepted packet at =
+-- The mark, the settings, whether a packet was accepted and how many were, the packet, and where in it the tracker is.
+abbrev pub firstNumbers : Settings → Bool → ℕ → Packet → At → List ℕ
+firstNumbers settings accepted packets packet at =
     (mark ∷ [])
-    ++ (settingsNumbers settings ++ ((flag accepted ∷ []) ++ (packetNumbers packet ++ atNumbers at)))
+    ++ (settingsNumbers settings ++ ((flag accepted ∷ packets ∷ []) ++ (packetNumbers packet ++ atNumbers at)))
 
 -- What is stored, and the frame.
 abbrev pub storedNumbers : Stored → Frame → List ℕ
@@ -102,7 +102,8 @@ filled numbers = numbers ++ replicate (size - length numbers) 0
 
 unfoldable pub encodeOf : Tracker → List ℕ
 encodeOf t =
-    filled (firstNumbers (t .settings) (t .accepted) (t .packet) (t .at) ++ storedNumbers (t .stored) (t .frame))
+    filled
+    (firstNumbers (t .settings) (t .accepted) (t .packets) (t .packet) (t .at) ++ storedNumbers (t .stored) (t .frame))
 
 -- What fits the widths of its types and the invariant does not speak of.
 pub record Sized (t : Tracker) : Type 0 where

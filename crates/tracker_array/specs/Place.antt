@@ -23,78 +23,81 @@ rule = 5
 abbrev pub accepted : ℕ
 accepted = 6
 
+abbrev pub packets : ℕ
+packets = 7
+
 abbrev pub position : ℕ
-position = 7
+position = 8
 
 abbrev pub orbit : ℕ
-orbit = 8
+orbit = 9
 
 abbrev pub trigger : ℕ
-trigger = 9
+trigger = 10
 
 abbrev pub bc : ℕ
-bc = 10
+bc = 11
 
 abbrev pub page : ℕ
-page = 11
+page = 12
 
 abbrev pub stop : ℕ
-stop = 12
+stop = 13
 
 abbrev pub format : ℕ
-format = 13
+format = 14
 
 abbrev pub state : ℕ
-state = 14
+state = 15
 
 abbrev pub count : ℕ
-count = 15
+count = 16
 
 abbrev pub seen : ℕ
-seen = 16
+seen = 17
 
 abbrev pub ihw : ℕ
-ihw = 17
+ihw = 18
 
 abbrev pub lanes : ℕ
-lanes = 18
+lanes = 19
 
 abbrev pub tdh : ℕ
-tdh = 19
+tdh = 20
 
 abbrev pub tdhTrigger : ℕ
-tdhTrigger = 20
+tdhTrigger = 21
 
 abbrev pub tdhBc : ℕ
-tdhBc = 21
+tdhBc = 22
 
 abbrev pub tdhOrbit : ℕ
-tdhOrbit = 22
+tdhOrbit = 23
 
 abbrev pub internal : ℕ
-internal = 23
+internal = 24
 
 abbrev pub internalBc : ℕ
-internalBc = 24
+internalBc = 25
 
 abbrev pub internalOrbit : ℕ
-internalOrbit = 25
+internalOrbit = 26
 
 abbrev pub cdw : ℕ
-cdw = 26
+cdw = 27
 
 abbrev pub cdwUser : ℕ
-cdwUser = 27
+cdwUser = 28
 
 abbrev pub opened : ℕ
-opened = 28
+opened = 29
 
 abbrev pub start : ℕ
-start = 29
+start = 30
 
 -- Nothing stands from here on.
 abbrev pub unused : ℕ
-unused = 30
+unused = 31
 
 -- Where the numbers of a part begin.
 abbrev pub settings : ℕ

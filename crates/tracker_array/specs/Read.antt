@@ -8,7 +8,7 @@ use lib.Dec.{leb, ltb, eqb}
 use lib.ListN.{length, getD}
 use Rattle.packet.specs.declared.Settings.{Settings}
 use Rattle.packet.specs.declared.Packet.{Packet}
-use Rattle.packet.specs.Packet.{inRange, maxWords, mostPosition}
+use Rattle.packet.specs.Packet.{inRange, maxWords, mostPackets, mostPosition}
 use Rattle.payload_fsm.specs.declared.State.{State}
 use Rattle.payload_fsm.specs.declared.State.the-variants as S
 use Rattle.stored.specs.declared.StoredTdh.{StoredTdh}
@@ -77,6 +77,7 @@ trackerIn a =
     record {
       settings = settingsIn a;
       accepted = isOn (place a P.accepted);
+      packets = place a P.packets;
       packet = packetIn a;
       at = record { fsm = record { state = stateOf (place a P.state) }; count = place a P.count; seen = isOn (place a P.seen) };
       stored = storedIn a;
@@ -133,6 +134,10 @@ storedGood frames s f =
 abbrev pub nothingMissing : State → Stored → Bool
 nothingMissing state s = (not (pastIhw state) || s .ihw .present) && (not (pastTdh state) || s .tdh .present)
 
+-- Some packets are counted where one was accepted, and no more than can be.
+abbrev pub packetsGood : Bool → ℕ → Bool
+packetsGood accepted packets = cond accepted (ltb 0 packets) (eqb packets 0) && leb packets mostPackets
+
 -- No packet, and the rest as the start gave it, but for the settings.
 abbrev pub packetBlank : Packet → Bool
 packetBlank p =
@@ -160,10 +165,11 @@ blank t =
 abbrev pub isGood : Tracker → Bool
 isGood t =
     settingsGood (t .settings)
+    && (packetsGood (t .accepted) (t .packets)
     && (inRange (t .packet)
     && (leb (t .at .count) maxWords
     && (storedGood (t .settings .frames) (t .stored) (t .frame)
-    && (nothingMissing (t .at .fsm .state) (t .stored) && (t .accepted || (packetBlank (t .packet) && blank t))))))
+    && (nothingMissing (t .at .fsm .state) (t .stored) && (t .accepted || (packetBlank (t .packet) && blank t)))))))
 
 -- The length, the form, one of the seven states, and the invariant.
 unfoldable pub isTracker : List ℕ → Bool

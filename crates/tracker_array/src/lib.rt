@@ -17,7 +17,7 @@ use cdp_running::Tracker;
 pub const SIZE: usize = 48;
 
 // The first number of every tracker; its last byte is the version of the boundary.
-pub const MARK: u64 = 0x4B48_5A04;
+pub const MARK: u64 = 0x4B48_5A05;
 
 // Whether numbers are a tracker.
 pub fn is_tracker(a: &[u64]) -> bool
@@ -41,6 +41,6 @@ pub fn encode(t: Tracker, a: &mut [u64])
         return;
     }
     write::unused(a);
-    write::up_to_seen(t.settings, t.accepted, t.packet, t.at, a);
+    write::up_to_seen(t.settings, t.accepted, t.packets, t.packet, t.at, a);
     write::stored(t.stored, t.frame, a);
 }

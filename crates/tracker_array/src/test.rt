@@ -1,6 +1,6 @@
 // Whether 48 numbers are a tracker, part by part, on the numbers themselves. Tests end at the first part that fails, which is faster than all of them.
 ghost use mathlib.Core.Path.{_≡_};
-ghost use mathlib.Core.Bool.{_&&_, _||_};
+ghost use mathlib.Core.Bool.{true, _&&_, _||_};
 ghost use Prim.Native.Nat.{_+_, _-_, _≤_};
 ghost use lib.Dec.{leb, ltb, eqb};
 ghost use lib.ListN.{length};
@@ -9,7 +9,7 @@ ghost use Rattle.tracker_array.specs.Array.{size, isOn};
 ghost use Rattle.tracker_array.specs.Place as P;
 ghost use Rattle.tracker_array.specs.Read.{place, settingsIn, packetIn, ihwIn, tdhIn, internalIn, cdwIn, storedIn, frameIn, trackerIn};
 ghost use Rattle.tracker_array.specs.Read.{flagsFit, zerosFrom, inForm, settingsGood, ihwGood, tdhGood, internalGood, cdwGood, frameGood};
-ghost use Rattle.tracker_array.specs.Read.{storedGood, nothingMissing, isGood};
+ghost use Rattle.tracker_array.specs.Read.{packetsGood, storedGood, nothingMissing, isGood};
 ghost use Rattle.tracker_array.specs.Good.{InForm};
 use crate::MARK;
 use crate::SIZE;
@@ -127,13 +127,25 @@ fn frame(a: &[u64]) -> bool
     fits(opened, MOST_POSITION, a[place::START]) & (opened <= a[place::FRAMES])
 }
 
-// What came in: settings, packet and count.
+// How many packets were accepted, where one was.
+fn packets(a: &[u64]) -> bool
+    requires { ⌜ InForm (now a) ⌝ }
+    ensures { λ r. ⌜ r ≡ packetsGood true (place (now (a .entry)) P.packets) ⌝ }
+{
+    let packets = a[place::PACKETS];
+    (0 < packets) & (packets <= (packet::MOST_PACKETS as u64))
+}
+
+// What came in: settings, packets, the packet and count.
 fn came_good(a: &[u64]) -> bool
     requires { ⌜ InForm (now a) ⌝ }
-    ensures { λ r. ⌜ r ≡ (settingsGood (settingsIn (now (a .entry)))
-        && (inRange (packetIn (now (a .entry))) && leb (place (now (a .entry)) P.count) maxWords)) ⌝ }
+    ensures { λ r. ⌜ r ≡ (settingsGood (settingsIn (now (a .entry))) && (packetsGood true (place (now (a .entry)) P.packets)
+        && (inRange (packetIn (now (a .entry))) && leb (place (now (a .entry)) P.count) maxWords))) ⌝ }
 {
     if !settings(a) {
+        return false;
+    }
+    if !packets(a) {
         return false;
     }
     if !packet(a) {
@@ -174,9 +186,9 @@ fn nothing_missing(a: &[u64]) -> bool
 // As the start gave it: nothing but the settings.
 fn bare(a: &[u64]) -> bool
     requires { ⌜ InForm (now a) ⌝ }
-    ensures { λ r. ⌜ r ≡ (settingsGood (settingsIn (now (a .entry))) && zerosFrom (P.unused - P.packet) P.packet (now (a .entry))) ⌝ }
+    ensures { λ r. ⌜ r ≡ (settingsGood (settingsIn (now (a .entry))) && zerosFrom (P.unused - P.packets) P.packets (now (a .entry))) ⌝ }
 {
-    settings(a) & zeros(a, place::POSITION, place::UNUSED)
+    settings(a) & zeros(a, place::PACKETS, place::UNUSED)
 }
 
 // One of the seven states, and the invariant: with a packet, or as the start gave it.

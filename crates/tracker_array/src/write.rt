@@ -82,13 +82,6 @@ fn mark(a: &mut [u64])
     a[place::MARK] = MARK;
 }
 
-fn accepted(b: bool, a: &mut [u64])
-    requires { ⌜ length (now a) ≡ size ⌝ }
-    ensures { λ _. ⌜ now (a .exit) ≡ sets (now (a .entry)) P.accepted (flag b ∷ []) ⌝ }
-{
-    a[place::ACCEPTED] = flag(b);
-}
-
 fn reached(at: At, a: &mut [u64])
     requires { ⌜ length (now a) ≡ size ⌝ }
     ensures { λ _. ⌜ now (a .exit) ≡ sets (now (a .entry)) P.reached (atNumbers at) ⌝ }
@@ -112,13 +105,13 @@ pub(crate) fn unused(a: &mut [u64])
     }
 }
 
-pub(crate) fn up_to_seen(s: Settings, b: bool, p: Packet, at: At, a: &mut [u64])
+pub(crate) fn up_to_seen(s: Settings, b: bool, n: u32, p: Packet, at: At, a: &mut [u64])
     requires { ⌜ length (now a) ≡ size ⌝ }
-    ensures { λ _. ⌜ now (a .exit) ≡ sets (now (a .entry)) P.mark (firstNumbers s b p at) ⌝ }
+    ensures { λ _. ⌜ now (a .exit) ≡ sets (now (a .entry)) P.mark (firstNumbers s b n p at) ⌝ }
 {
     mark(a);
     settings(s, a);
-    accepted(b, a);
+    flag_and_number(b, n as u64, place::ACCEPTED, a);
     packet(p, a);
     reached(at, a);
 }

@@ -126,9 +126,9 @@ input-7 = same-at-ids _ (λ i. false) refl
 
 -- The records of a word with such an id, with running checks: these and no others, whichever lanes are active.
 module _ (s : Settings) (running : s .running ≡ true) (seen : Bool) (lanes : ℕ) (stored : StoredCdw) (w : Word)
-    (other : isDataId (idOf w) ≡ false) (position : ℕ) where
+    (other : isDataId (idOf w) ≡ false) (position packet : ℕ) where
   abbrev say : ℕ → ℕ → ℕ → Record
-  say code first second = recordAt position (when true code first second)
+  say code first second = recordAt position packet (when true code first second)
 
   bound : idOf w < 256
   bound = bits-below 79 72 w
@@ -137,7 +137,7 @@ module _ (s : Settings) (running : s .running ≡ true) (seen : Bool) (lanes : �
   no-cdw e lt = ne-eqb (idOf w) 0xF8 (λ q. omega arith)
 
   pub inner-missing : inner w ≡ true
-      → given position (dataRows s seen lanes stored true w) ≡ say 991 (idOf w) 0 ∷ say 70 (idOf w) 0 ∷ say 1074
+      → given position packet (dataRows s seen lanes stored true w) ≡ say 991 (idOf w) 0 ∷ say 70 (idOf w) 0 ∷ say 1074
       (innerLane (idOf w)) lanes ∷ []
   unfolding given
   inner-missing barrel =
@@ -147,7 +147,7 @@ module _ (s : Settings) (running : s .running ≡ true) (seen : Bool) (lanes : �
       simp (running, no-cdw top (omega arith), and-false, other, barrel, none, no-outer)
 
   pub outer-missing : outer w ≡ true
-      → given position (dataRows s seen lanes stored true w)
+      → given position packet (dataRows s seen lanes stored true w)
       ≡ say 991 (idOf w) 0 ∷ say 70 (idOf w) 0 ∷ say 1074 (outerLane (idOf w)) lanes ∷ say 1073 7 0 ∷ []
   unfolding given
   outer-missing barrel =

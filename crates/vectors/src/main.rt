@@ -1,5 +1,6 @@
 // Replays recorded calls, and compares each answer with the one that the given Rust gave. tests/make/record.py made the files of data/ and
-// says how they are written. Document 01, "At the edges": "The rest, and the differential runs, are done by a program."
+// says how they are written. The Rust's records have no packet: ours are held to a count that is kept here.
+// Document 01, "At the edges": "The rest, and the differential runs, are done by a program."
 ghost use Prim.Native.Nat.{_+_, _*_, _<_, _≤_};
 ghost use lib.ListN.{length};
 ghost use Rattle.records.specs.Records.{recordWidth, mostRecords};
@@ -26,10 +27,11 @@ struct Part {
     bytes: [u8; 22],
 }
 
-// The tracker after a call of the file, and what the call was: a start, a word, one whose answer differs, the last one.
+// The tracker after a call of the file, and what the call was: a start, a packet, a word, one whose answer differs, the last one.
 struct Replayed {
     tracker: Tracker,
     start: bool,
+    packet: bool,
     word: bool,
     differs: bool,
     last: bool,
@@ -87,32 +89,32 @@ fn packet_of(b: &[u8; 22]) -> Packet {
     }
 }
 
-// Are the numbers of a record those that the bytes have?
-fn same_numbers(b: &[u8; 22], out: &[u64; MOST_NUMBERS], at: usize) -> bool
+// Are the numbers of a record those that the bytes have, and the last the count of packets?
+fn same_numbers(b: &[u8; 22], out: &[u64; MOST_NUMBERS], at: usize, packets: u64) -> bool
     requires { ⌜ at + recordWidth ≤ mostRecords * recordWidth ⌝ }
 {
     let there = (out[at] == get64(b, 0)) & (out[at + 1] == get16(b, 8));
     let numbers = (out[at + 2] == get32(b, 10)) & (out[at + 3] == get32(b, 14));
-    there & numbers
+    there & (numbers & (out[at + 4] == packets))
 }
 
-// Is record i the one that the file has next?
-fn same_record(fd: i32, out: &[u64; MOST_NUMBERS], i: usize) -> bool
+// Is record i the one that the file has next, behind so many packets?
+fn same_record(fd: i32, out: &[u64; MOST_NUMBERS], i: usize, packets: u64) -> bool
     requires { ⌜ i < mostRecords ⌝ }
 {
     let next = take(fd, 18);
     let b = next.bytes;
-    let same = same_numbers(&b, out, records::RECORD_WIDTH * i);
+    let same = same_numbers(&b, out, records::RECORD_WIDTH * i, packets);
     next.whole & same
 }
 
-fn same_records(fd: i32, out: &[u64; MOST_NUMBERS], n: u8) -> bool {
+fn same_records(fd: i32, out: &[u64; MOST_NUMBERS], n: u8, packets: u64) -> bool {
     if records::MOST_RECORDS < n as usize {
         return false;
     }
     let mut same = true;
     for i in 0..n as usize {
-        let this = same_record(fd, out, i);
+        let this = same_record(fd, out, i, packets);
         same = same & this;
     }
     same
@@ -142,7 +144,7 @@ fn same_frame(fd: i32, told: FrameTold, frame: u8) -> bool {
 }
 
 // Is the answer to a word the one that the file has next: kind, guessed, frame, number of records, and what hangs on these?
-fn same_answer(fd: i32, told: Told, out: &[u64; MOST_NUMBERS]) -> bool {
+fn same_answer(fd: i32, told: Told, out: &[u64; MOST_NUMBERS], packets: u64) -> bool {
     let next = take(fd, 4);
     let b = next.bytes;
     match told {
@@ -153,14 +155,15 @@ fn same_answer(fd: i32, told: Told, out: &[u64; MOST_NUMBERS]) -> bool {
             let as_guess = one(taken.guessed) == b[1] as u32;
             let as_count = taken.records == b[3] as u64;
             let as_frame = same_frame(fd, frame, b[2]);
-            let as_records = same_records(fd, out, b[3]);
+            let as_records = same_records(fd, out, b[3], packets);
             next.whole & (as_kind & (as_guess & (as_frame & (as_count & as_records))))
         }
         Told::Refused(n) => false,
     }
 }
 
-fn word(t: Tracker, fd: i32) -> Replayed
+// A word, behind so many packets since the start.
+fn word(t: Tracker, fd: i32, packets: u64) -> Replayed
     requires { ⌜ Good t ⌝ }
     ensures { λ r. ⌜ Good (r .tracker) ⌝ }
 {
@@ -170,10 +173,11 @@ fn word(t: Tracker, fd: i32) -> Replayed
     let a = t.word(&bytes[..got], &mut out);
     let told = a.told;
     let after = a.tracker;
-    let same = same_answer(fd, told, &out);
+    let same = same_answer(fd, told, &out, packets);
     Replayed {
         tracker: after,
         start: false,
+        packet: false,
         word: true,
         differs: !same,
         last: false,
@@ -190,6 +194,7 @@ fn start(fd: i32) -> Replayed
     Replayed {
         tracker: t,
         start: true,
+        packet: false,
         word: false,
         differs: !next.whole,
         last: false,
@@ -208,6 +213,7 @@ fn packet(t: Tracker, fd: i32) -> Replayed
     Replayed {
         tracker: after,
         start: false,
+        packet: true,
         word: false,
         differs: !(next.whole & (a.refusal == 0)),
         last: false,
@@ -222,6 +228,7 @@ fn reset(t: Tracker) -> Replayed
     Replayed {
         tracker: after,
         start: false,
+        packet: false,
         word: false,
         differs: false,
         last: false,
@@ -236,14 +243,15 @@ fn end(t: Tracker, broken: bool) -> Replayed
     Replayed {
         tracker: t,
         start: false,
+        packet: false,
         word: false,
         differs: broken,
         last: true,
     }
 }
 
-// The next call of the file, by its number.
-fn step(t: Tracker, fd: i32) -> Replayed
+// The next call of the file, by its number, behind so many packets since the start.
+fn step(t: Tracker, fd: i32, packets: u64) -> Replayed
     requires { ⌜ Good t ⌝ }
     ensures { λ r. ⌜ Good (r .tracker) ⌝ }
 {
@@ -256,8 +264,22 @@ fn step(t: Tracker, fd: i32) -> Replayed
         0 => start(fd),
         1 => packet(t, fd),
         2 => reset(t),
-        3 => word(t, fd),
+        3 => word(t, fd, packets),
         _ => end(t, true),
+    }
+}
+
+// How many packets there were since the start, behind a call. One that is refused differs, so that all of them were accepted.
+fn packets_after(packets: u64, start: bool, packet: bool) -> u64
+    requires { ⌜ packets ≤ 65536 ⌝ }
+    ensures { λ r. ⌜ r ≤ packets + 1 ⌝ }
+{
+    if start {
+        0
+    } else if packet {
+        packets + 1
+    } else {
+        packets
     }
 }
 
@@ -275,10 +297,12 @@ fn replay(fd: i32) -> Tally {
         words: 0,
         differ: 0,
     };
+    let mut packets: u64 = 0;
     for n in 0..MAX_CALLS {
-        let replayed = step(t, fd);
+        let replayed = step(t, fd, packets);
         let after = replayed.tracker;
         t = after;
+        packets = packets_after(packets, replayed.start, replayed.packet);
         y.sequences = y.sequences + one(replayed.start);
         y.words = y.words + one(replayed.word);
         y.differ = y.differ + one(replayed.differs);

@@ -6,28 +6,35 @@ use mathlib.Core.Logic.{⊎-elim}
 use Prim.Native.Nat.{_+_, _-_, _≤_}
 use lib.ListN.{length}
 use Rattle.records.specs.Records.{recordWidth, mostRecords}
-use Rattle.records.proofs.Given.{counted}
+use Rattle.records.proofs.Given.{counted, count-low}
 use Rattle.records.proofs.Writing.{Going, begins, skip, has-room, more, tail-long, refused, written}
 use native.Mathlib.Omega.{arith}
 use Rattle.records.proofs.write.Statement.{statement}
 use Rattle.records.proofs.write.Tie as tie
 
 abbrev Inv-loop : tie.InvT-loop
-Inv-loop out₀ position rows n used₀ i₀ out used i = Going position rows out₀ out used i
+Inv-loop out₀ position packet rows n used₀ i₀ out used i = Going position packet rows out₀ out used i
 
 abbrev μ-loop : tie.MeasureT-loop
-μ-loop out₀ position rows n used₀ i₀ out used i = mostRecords - i
+μ-loop out₀ position packet rows n used₀ i₀ out used i = mostRecords - i
+
+-- At most six records.
+few : (c : tie.After-count Inv-loop μ-loop) → c .count .result ≤ mostRecords
+few c =
+    let start : tie.Start Inv-loop μ-loop = search in
+    omega (arith, c .count .ensures, count-low (start .args .t4))
 
 returns : tie.Need-returns Inv-loop μ-loop
 returns c =
-    refused (c .before .before .before .args .position) (c .before .before .before .args .t3)
-    (now (c .before .before .before .args .out)) (omega (arith, c .before .count .ensures, c .if1 .taken))
+    let start : tie.Start Inv-loop μ-loop = search in
+    refused (start .args .position) (start .args .packet) (start .args .t4) (now (start .args .out))
+    (omega (arith, c .before .count .ensures, c .if1 .taken))
 
 loop-holds : tie.Need-loop-holds Inv-loop μ-loop
 loop-holds c =
-    begins (c .before .before .before .args .position) (c .before .before .before .args .t3)
-    (now (c .before .before .before .args .out))
-    (omega (arith, counted (c .before .before .before .args .position) (c .before .before .before .args .t3), c .before .count .ensures))
+    let start : tie.Start Inv-loop μ-loop = search in
+    begins (start .args .position) (start .args .packet) (start .args .t4) (now (start .args .out))
+    (omega (arith, counted (start .args .position) (start .args .packet) (start .args .t4), c .before .count .ensures))
 
 fits : (c : tie.Then2 Inv-loop μ-loop) → c .before .before .before .loop .used + recordWidth
     ≤ length (c .before .before .before .loop .out)
@@ -63,7 +70,7 @@ loop-again c =
 returns-2 : tie.Need-returns-2 Inv-loop μ-loop
 returns-2 c =
     let start : tie.Start Inv-loop μ-loop = search in
-    written (start .args .position) (start .args .t3) (now (start .args .out)) (c .before .loop .out)
+    written (start .args .position) (start .args .packet) (start .args .t4) (now (start .args .out)) (c .before .loop .out)
     (c .before .loop .used) (c .before .loop .k)
     (c .before .before .before .count .result) (c .before .loop .inv) (search needs)
     (c .before .before .before .count .ensures)
@@ -71,6 +78,6 @@ returns-2 c =
 
 pub write-spec : {M : Type 1} → statement M
 write-spec =
-    tie.close (tie.spec Inv-loop μ-loop (λ c. search needs) returns loop-holds (λ c. search needs) (λ c. search needs)
+    tie.close (tie.spec Inv-loop μ-loop (λ c. search needs) (λ c. omega (arith, few (search))) returns loop-holds (λ c. search needs) (λ c. search needs)
     mul-put sub-put part-put-start (λ c. search needs) put-requires add-used (λ c. search needs) (λ c. search needs)
     loop-again (λ c. search needs) returns-2)

@@ -4,6 +4,7 @@ use borrow.Author.Needs.{needs}
 use denote.Ref.{now}
 use mathlib.Core.Path.{refl, ap}
 use native.Mathlib.Omega.{arith}
+use lib.ListN.{length}
 use Rattle.ascii.proofs.Putting.{none-put, in-room}
 use Rattle.report.specs.Text.{heading, refusedLine}
 use Rattle.report.specs.Report.{reading}
@@ -23,7 +24,7 @@ returns c =
     let start : tie.Start = search in
     staged (now (start .args .file)) (start .args .r) (after-enum-told .enum-told .given .1) (record {
       next-is = c .at-stage .ensures;
-      puts = in-room 22 heading (omega (arith, start .pre .1)) (c .before .before .before .put .ensures .0);
+      puts = in-room (length heading) heading (omega (arith, start .pre .1)) (c .before .before .before .put .ensures .0);
     })
 
 returns-2 : tie.Need-returns-2

@@ -7,10 +7,10 @@ use Rattle.vectors.proofs.same_records.Statement.{statement}
 use Rattle.vectors.proofs.same_records.Tie as tie
 
 abbrev Inv-loop : tie.InvT-loop
-Inv-loop fd out n same₀ i₀ i-end same i = (i ≤ i-end) × (i-end ≤ mostRecords)
+Inv-loop fd out n packets same₀ i₀ i-end same i = (i ≤ i-end) × (i-end ≤ mostRecords)
 
 abbrev μ-loop : tie.MeasureT-loop
-μ-loop fd out n same₀ i₀ i-end same i = i-end - i
+μ-loop fd out n packets same₀ i₀ i-end same i = i-end - i
 
 pub same-records-spec : {M : Type 1} → statement M
 same-records-spec =

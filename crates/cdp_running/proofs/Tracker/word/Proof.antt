@@ -44,13 +44,16 @@ returns-3 c =
 
 taken-requires : tie.Need-taken-requires
 taken-requires c κs =
+    let after-word : tie.After-word = search in
     let start : tie.Start = search in
     start .pre
 
 -- What was written are the rows of the definition.
-wrote : (c : tie.After-write) → let start : tie.Start = search in let t = start .args .self in
+wrote : (c : tie.After-write) → let after-word : tie.After-word = search in let start : tie.Start = search in
+    let t = start .args .self in
     let w = wordOf (now (start .args .bytes)) in
-    WritePost (positionNow t) (padded (rowsOf t (takenAs t w) w)) (now (start .args .out)) (c .write .result) (c .write .last .0)
+    WritePost (positionNow t) (t .packets) (padded (rowsOf t (takenAs t w) w)) (now (start .args .out)) (c .write .result)
+    (c .write .last .0)
 wrote c =
     let after-here : tie.After-here = search in
     let after-rows-of : tie.After-rows-of = search in
@@ -89,4 +92,4 @@ word-spec =
     tie.close (tie.spec (λ c. search needs) (λ c. search needs) (λ c. search needs) (λ c. search needs) returns
     (λ c. search needs) returns-2 (λ c. search needs) returns-3 (λ c. search needs) (λ c. search needs)
     (λ c κs. search needs) (λ c. search needs) (λ c. search needs) (λ c. search needs) (λ c. search needs)
-    (λ c. search needs) returns-4 taken-requires (λ c. search needs) returns-5)
+    (λ c. search needs) (λ c. search needs) returns-4 taken-requires (λ c. search needs) returns-5)

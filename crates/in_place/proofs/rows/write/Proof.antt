@@ -11,13 +11,15 @@ use Rattle.in_place.proofs.rows.write.Tie as tie
 returns : tie.Need-returns
 returns c =
     let start : tie.Start = search in
-    quiet-wrote (start .args .here) (rowsOf (trackerIn (now (start .args .a))) (start .args .taken) (start .args .word))
+    quiet-wrote (start .args .here) _ (rowsOf (trackerIn (now (start .args .a))) (start .args .taken) (start .args .word))
     (now (start .args .out)) (c .before .is-silent .ensures (c .if1 .taken))
 
 returns-2 : tie.Need-returns-2
-returns-2 c = of-rows (c .before .before .before .rows .ensures) (c .before .before .write .ensures)
+returns-2 c =
+    let after-rows : tie.After-rows = search in
+    of-rows (after-rows .rows .ensures) (c .before .before .write .ensures)
 
 pub write-spec : {M : Type 1} → statement M
 write-spec =
-    tie.close (tie.spec (λ c. search needs) returns (λ c. search needs) (λ c. search needs) (λ c. search needs)
+    tie.close (tie.spec (λ c. search needs) returns (λ c. search needs) (λ c. search needs) (λ c. search needs) (λ c. search needs)
     returns-2)

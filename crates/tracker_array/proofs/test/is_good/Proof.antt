@@ -11,7 +11,8 @@ use Rattle.words.proofs.Tests.{fails, holds}
 use Rattle.packet.specs.Packet.{inRange, maxWords}
 use Rattle.tracker_array.specs.Place as P
 use Rattle.tracker_array.specs.Array.{isOn}
-use Rattle.tracker_array.specs.Read.{place, settingsIn, packetIn, storedIn, frameIn, trackerIn, settingsGood, storedGood, nothingMissing, isGood}
+use Rattle.tracker_array.specs.Read.{place, settingsIn, packetIn, storedIn, frameIn, trackerIn}
+use Rattle.tracker_array.specs.Read.{settingsGood, packetsGood, storedGood, nothingMissing, isGood}
 use Rattle.tracker_array.proofs.Laws.{bare-good}
 use borrow.Author.Needs.{needs}
 use Rattle.tracker_array.proofs.test.is_good.Statement.{statement}
@@ -26,12 +27,14 @@ first false b false d = refl
 
 -- The parts in the groups that the code asks, where a packet was accepted.
 grouped : (l : List ℕ) → isOn (place l P.accepted) ≡ true
-    → ((settingsGood (settingsIn l) && (inRange (packetIn l) && leb (place l P.count) maxWords))
+    → ((settingsGood (settingsIn l)
+    && (packetsGood true (place l P.packets) && (inRange (packetIn l) && leb (place l P.count) maxWords)))
     && (storedGood (isOn (place l P.frames)) (storedIn l) (frameIn l)
     && (leb (place l P.state) 6 && nothingMissing (trackerIn l .at .fsm .state) (storedIn l))))
     ≡ (leb (place l P.state) 6 && isGood (trackerIn l))
 grouped l have =
-    let came = settingsGood (settingsIn l) && (inRange (packetIn l) && leb (place l P.count) maxWords) in
+    let came = settingsGood (settingsIn l)
+    && (packetsGood true (place l P.packets) && (inRange (packetIn l) && leb (place l P.count) maxWords)) in
     let kept = storedGood (isOn (place l P.frames)) (storedIn l) (frameIn l) in
     first came kept (leb (place l P.state) 6) (nothingMissing (trackerIn l .at .fsm .state) (storedIn l))
     ∙ simp (have, and-true, and-assoc)

@@ -1,4 +1,4 @@
--- `first` meets its contract, part by part.
+-- `up_to_seen` meets its contract, part by part.
 -- Assumes nothing.
 use borrow.Author.Needs.{needs}
 use Rattle.tracker_array.proofs.write.up_to_seen.Statement.{statement}
@@ -7,13 +7,13 @@ use Rattle.tracker_array.proofs.write.up_to_seen.Tie as tie
 returns : tie.Need-returns
 returns c =
     let after-packet : tie.After-packet = search in
-    let after-accepted : tie.After-accepted = search in
+    let after-flag-and-number : tie.After-flag-and-number = search in
     let after-settings : tie.After-settings = search in
     let after-mark : tie.After-mark = search in
     simp (
       c .before .before .reached .ensures,
       after-packet .packet .ensures,
-      after-accepted .accepted .ensures,
+      after-flag-and-number .flag-and-number .ensures,
       after-settings .settings .ensures,
       after-mark .mark .ensures,
     )
