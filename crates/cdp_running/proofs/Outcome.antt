@@ -35,9 +35,10 @@ packet-cases P t p accepted ten five = at (inRange p) (ltb (t .packets) mostPack
     at false few e h = five
 
 -- Where 10 is not met, its ranges alone decide.
-pub packet-not-ten : (t : Tracker) (p : Packet) → (packetCall t p .refusal ≡ 10 → ⊥)
-    → packetCall t p
-    ≡ cond (inRange p) (record { tracker = acceptOf t p; refusal = 0 }) (record { tracker = t; refusal = 5 })
+abbrev pub byRange : Bool → Tracker → Packet → PacketAnswer
+byRange range t p = cond range (record { tracker = acceptOf t p; refusal = 0 }) (record { tracker = t; refusal = 5 })
+
+pub packet-not-ten : (t : Tracker) (p : Packet) → (packetCall t p .refusal ≡ 10 → ⊥) → packetCall t p ≡ byRange (inRange p) t p
 unfolding packetCall
 packet-not-ten t p = at (inRange p) (ltb (t .packets) mostPackets)
   where
@@ -46,8 +47,7 @@ packet-not-ten t p = at (inRange p) (ltb (t .packets) mostPackets)
         cond range (cond few (record { tracker = acceptOf t p; refusal = 0 }) (record { tracker = t; refusal = 10 }))
         (record { tracker = t; refusal = 5 })
 
-    at : (range few : Bool) → (answer range few .refusal ≡ 10 → ⊥)
-        → answer range few ≡ cond range (record { tracker = acceptOf t p; refusal = 0 }) (record { tracker = t; refusal = 5 })
+    at : (range few : Bool) → (answer range few .refusal ≡ 10 → ⊥) → answer range few ≡ byRange range t p
     at true true n = refl
     at true false n = absurd (n refl)
     at false few n = refl
@@ -68,8 +68,8 @@ pub packet-admitted : (t : Tracker) (p : Packet) → inRange p ≡ true → t .p
 unfolding packetCall
 packet-admitted t p e h = record { in-range = e; few = h; is = simp (e, lt-ltb _ _ h) }
 
-pub packet-accepted : (t : Tracker) (p : Packet) → packetCall t p .refusal ≡ 0 → AcceptedPacket t p
-packet-accepted t p =
+pub accepted-admitted : (t : Tracker) (p : Packet) → packetCall t p .refusal ≡ 0 → AcceptedPacket t p
+accepted-admitted t p =
     packet-cases (λ (r : PacketAnswer). r .refusal ≡ 0 → AcceptedPacket t p) t p (λ e h _. packet-admitted t p e h)
     (λ e. absurd (omega arith)) (λ e. absurd (omega arith))
 

@@ -19,7 +19,7 @@ use Rattle.cdp_running.specs.declared.PacketAnswer.{PacketAnswer}
 use Rattle.cdp_running.specs.Tracker.{acceptOf, resetOf, packetCall}
 use Rattle.cdp_running.specs.Word as Word
 use Rattle.cdp_running.specs.Word.{Outcome, refused, wordCall}
-use Rattle.cdp_running.proofs.Outcome.{packet-not-ten, taken-admitted}
+use Rattle.cdp_running.proofs.Outcome.{byRange, packet-not-ten, taken-admitted}
 use Rattle.payload.specs.Payload.{Run, further, wordCalls, payloadCalls, total}
 use Rattle.payload.proofs.Words.{payload-total}
 use Rattle.forgetting.specs.Calls.{Call, packet, word, payload, reset, after, run, answer, answers, Kind, kind, refusal, kindsIn, kindsOf, kinds, Took}
@@ -92,26 +92,23 @@ call-agrees m t u (packet p) s _ ten ten′ =
       same = carried (ap tracker is) (ap tracker is′) (trackers (inRange p));
     }
   where
-    byRange : Bool → Tracker → PacketAnswer
-    byRange ok x = cond ok (record { tracker = acceptOf x p; refusal = 0 }) (record { tracker = x; refusal = 5 })
-
     said : PacketAnswer → List Kind
     said x = refusal (x .refusal) ∷ []
 
     tracker : PacketAnswer → Tracker
     tracker x = x .tracker
 
-    is : packetCall t p ≡ byRange (inRange p) t
+    is : packetCall t p ≡ byRange (inRange p) t p
     is = packet-not-ten t p ten
 
-    is′ : packetCall u p ≡ byRange (inRange p) u
+    is′ : packetCall u p ≡ byRange (inRange p) u p
     is′ = packet-not-ten u p ten′
 
-    number : (ok : Bool) → said (byRange ok t) ≡ said (byRange ok u)
+    number : (ok : Bool) → said (byRange ok t p) ≡ said (byRange ok u p)
     number true = refl
     number false = refl
 
-    trackers : (ok : Bool) → Same m (byRange ok t .tracker) (byRange ok u .tracker)
+    trackers : (ok : Bool) → Same m (byRange ok t p .tracker) (byRange ok u p .tracker)
     trackers true = same-accept p s
     trackers false = s
 call-agrees m t u (word b buffer) s h _ _ =

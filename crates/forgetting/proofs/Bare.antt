@@ -18,10 +18,10 @@ use Rattle.records.proofs.Given.{counted, length-flat}
 use Rattle.cdp_running.specs.declared.Tracker.{Tracker}
 use Rattle.cdp_running.specs.declared.Told.the-variants as T
 use Rattle.cdp_running.specs.declared.PacketAnswer.{PacketAnswer}
-use Rattle.cdp_running.specs.Tracker.{acceptOf, packetCall}
+use Rattle.cdp_running.specs.Tracker.{packetCall}
 use Rattle.cdp_running.specs.Word as Word
 use Rattle.cdp_running.specs.Word.{rowsAs, rowsOf, takenAs, positionNow, recordsOf, TakenWord, Outcome, taken, refused, takenOf, wordCall}
-use Rattle.cdp_running.proofs.Outcome.{packet-not-ten}
+use Rattle.cdp_running.proofs.Outcome.{byRange, packet-not-ten}
 use Rattle.payload.specs.Payload.{Run, stop, preceded, onward, wordsFrom, payloadCall}
 use Rattle.forgetting.specs.Calls.{Call, packet, word, payload, reset, after, Answer, answer, answers}
 use Rattle.forgetting.specs.Forget.{NotTen, NeverTen, bare, bareAnswer, bareAnswers}
@@ -191,15 +191,12 @@ call-bare : (t : Tracker) (n : ℕ) (c : Call) → NotTen (answer t c) → NotTe
     → Bares t (counting t n) c
 call-bare t n (packet p) ten ten′ =
     subst (λ (r : PacketAnswer). Both r (packetCall (counting t n) p)) (sym (packet-not-ten t p ten))
-    (subst (Both (byRange (inRange p) t)) (sym (packet-not-ten (counting t n) p ten′)) (at (inRange p)))
+    (subst (Both (byRange (inRange p) t p)) (sym (packet-not-ten (counting t n) p ten′)) (at (inRange p)))
   where
-    byRange : Bool → Tracker → PacketAnswer
-    byRange ok x = cond ok (record { tracker = acceptOf x p; refusal = 0 }) (record { tracker = x; refusal = 5 })
-
     Both : PacketAnswer → PacketAnswer → Type 0
     Both r r′ = _≡_ {A = Answer} (packet (r .refusal)) (packet (r′ .refusal)) × (counting (r .tracker) (r′ .tracker .packets) ≡ r′ .tracker)
 
-    at : (ok : Bool) → Both (byRange ok t) (byRange ok (counting t n))
+    at : (ok : Bool) → Both (byRange ok t p) (byRange ok (counting t n) p)
     at true = (refl, refl)
     at false = (refl, refl)
 call-bare t n (word b buffer) _ _ = at (word-twins t n b (room buffer))

@@ -14,10 +14,10 @@ use Rattle.payload_fsm.proofs.Rows.{choice}
 use Rattle.records.specs.Records.{room}
 use Rattle.cdp_running.specs.declared.Tracker.{Tracker}
 use Rattle.cdp_running.specs.declared.PacketAnswer.{PacketAnswer}
-use Rattle.cdp_running.specs.Tracker.{startOf, acceptOf, packetCall}
+use Rattle.cdp_running.specs.Tracker.{startOf, packetCall}
 use Rattle.cdp_running.specs.Word as Word
 use Rattle.cdp_running.specs.Word.{Outcome, taken, refused, wordCall}
-use Rattle.cdp_running.proofs.Outcome.{packet-cases, packet-not-ten, next-is}
+use Rattle.cdp_running.proofs.Outcome.{packet-cases, byRange, packet-not-ten, next-is}
 use Rattle.payload.specs.Payload.{Run, wordsFrom, payloadCall}
 use Rattle.payload.proofs.Run.{step-taken, step-refused}
 use Rattle.forgetting.specs.Calls.{Call, packet, word, payload, reset, after, run, answers, acceptedIn}
@@ -88,8 +88,7 @@ accepted-alike t u (packet p ∷ calls) (ten, n) (ten′, n′) =
     by-range : (x : Tracker) → (packetCall x p .refusal ≡ 10 → ⊥) → packetCall x p .refusal ≡ cond (inRange p) 0 5
     by-range x never = ap (λ (r : PacketAnswer). r .refusal) (packet-not-ten x p never) ∙ at (inRange p)
       where
-        at : (ok : Bool) → cond {A = PacketAnswer} ok (record { tracker = acceptOf x p; refusal = 0 })
-            (record { tracker = x; refusal = 5 }) .refusal ≡ cond ok 0 5
+        at : (ok : Bool) → byRange ok x p .refusal ≡ cond ok 0 5
         at true = refl
         at false = refl
 accepted-alike t u (word b buffer ∷ calls) n n′ = accepted-alike (after t (word b buffer)) (after u (word b buffer)) calls (n .1) (n′ .1)

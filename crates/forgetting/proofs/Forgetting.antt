@@ -12,7 +12,7 @@ use Rattle.cdp_running.specs.declared.Tracker.{Tracker}
 use Rattle.cdp_running.specs.declared.PacketAnswer.{PacketAnswer}
 use Rattle.cdp_running.specs.Tracker.{Good, startOf, acceptOf, packetCall}
 use Rattle.cdp_running.proofs.Good.{good-start}
-use Rattle.cdp_running.proofs.Outcome.{packet-accepted}
+use Rattle.cdp_running.proofs.Outcome.{accepted-admitted}
 use Rattle.forgetting.specs.Calls.{Call, packet, word, payload, reset, after, run, answers, refusal, Took, tookIn, tookOf, took}
 use Rattle.forgetting.specs.Forget.{AcceptedMarker, Roomy, Begins, NeverTen, Continues, asIhw, asInternalTdh, asFirstCdw, some, HasMet}
 use Rattle.forgetting.specs.Forget.{Forgotten}
@@ -84,7 +84,7 @@ module _ (t u : Tracker) (e : t .settings ≡ u .settings) (st : Settled t) (su 
       record {
         kinds-agree = ap (λ (n : ℕ). refusal n ∷ []) (r ∙ sym r′);
         same =
-            carried (ap tracker (packet-accepted t p r .is)) (ap tracker (packet-accepted u p r′ .is))
+            carried (ap tracker (accepted-admitted t p r .is)) (ap tracker (accepted-admitted u p r′ .is))
             (packet-same t u p e st su);
       }
 

@@ -18,7 +18,7 @@ use Rattle.cdp_running.specs.declared.PacketAnswer.{PacketAnswer}
 use Rattle.cdp_running.specs.Tracker.{startOf, packetCall}
 use Rattle.cdp_running.specs.Next.{nextTracker as afterWord}
 use Rattle.cdp_running.specs.Word.{takenAs, Outcome, takenOf, wordCall, wordAnswer}
-use Rattle.cdp_running.proofs.Outcome.{packet-admitted, packet-accepted, admitted-taken}
+use Rattle.cdp_running.proofs.Outcome.{packet-admitted, accepted-admitted, admitted-taken}
 use Rattle.cdp_running.proofs.Fine.{few-records}
 use Rattle.bench_file.specs.File.{bytesAt, checkOf}
 use Rattle.bench_file.specs.Items.{Item, packet, word, items}
@@ -92,7 +92,7 @@ unfolding AllAccepted trackerFrom packetsIn takenOf
 counted-from t [] rest all = sym (add-zero (t .packets))
 counted-from t (packet p count ∷ front) rest (here, later) =
     let one : packetCall t p .tracker .packets ≡ t .packets + 1 =
-    ap (λ (r : PacketAnswer). r .tracker .packets) (packet-accepted t p here .is) in
+    ap (λ (r : PacketAnswer). r .tracker .packets) (accepted-admitted t p here .is) in
     counted-from (packetCall t p .tracker) front rest later ∙ ap (λ (n : ℕ). n + packetsIn front) one
     ∙ add-assoc (t .packets) 1 (packetsIn front)
 counted-from t (word at bytes ∷ front) rest (here, later) =
