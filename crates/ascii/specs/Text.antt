@@ -34,6 +34,10 @@ decimal n = decimalIn (suc n) n
 abbrev pub numeral : ℕ → ℕ → List ℕ
 numeral n byte = decimal n ++ (byte ∷ [])
 
+-- The same behind a name.
+abbrev pub named : List ℕ → ℕ → ℕ → List ℕ
+named name n byte = name ++ numeral n byte
+
 -- Numbers, each behind a space; and a line of a name and numbers.
 unfoldable pub spaced : List ℕ → List ℕ
 spaced [] = []
@@ -45,6 +49,9 @@ line name numbers = name ++ spaced numbers ++ (newline ∷ [])
 -- The room that is asked for, whatever the numbers are: one of 64 bits has at most 20 digits, and a byte stands beside it.
 abbrev pub mostNumber : ℕ
 mostNumber = 20 + 1
+
+abbrev pub mostNamed : List ℕ → ℕ
+mostNamed name = length name + mostNumber
 
 abbrev pub mostLine : List ℕ → List ℕ → ℕ
 mostLine name numbers = length name + mostNumber * length numbers + 1

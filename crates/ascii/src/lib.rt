@@ -2,7 +2,7 @@
 ghost use mathlib.Core.List.{_∷_};
 ghost use Prim.Native.Nat.{_+_, _*_, _≤_};
 ghost use lib.ListN.{length};
-ghost use Rattle.ascii.specs.Text.{space, decimal, numeral, spaced, line, mostNumber, mostLine, inRoom, Puts};
+ghost use Rattle.ascii.specs.Text.{space, decimal, numeral, named, spaced, line, mostNumber, mostNamed, mostLine, inRoom, Puts};
 
 pub const SPACE: u8 = 0x20;
 
@@ -56,6 +56,22 @@ pub fn put_number(out: &mut [u8], n: u64, end: u8) -> usize
     let used = put_decimal(out, n);
     out[used] = end;
     used + 1
+}
+
+// A name, a number and the byte after it.
+pub fn put_named(out: &mut [u8], name: &[u8], n: u64, end: u8) -> usize
+    ensures { λ r. ⌜ Puts (inRoom (mostNamed (now (name .entry))) (length (now (out .entry))) (named (now (name .entry)) n end))
+        (now (out .entry)) r (now (out .exit)) ⌝ }
+    ensures { λ r. ⌜ r ≤ mostNamed (now (name .entry)) ⌝ }
+{
+    if out.len() < MOST_NUMBER {
+        return 0;
+    }
+    if out.len() - MOST_NUMBER < name.len() {
+        return 0;
+    }
+    let used = copy(out, name);
+    used + put_number(&mut out[used..], n, end)
 }
 
 // A space and the number after it.

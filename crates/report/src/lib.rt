@@ -144,7 +144,7 @@ fn item_step(r: Report, file: &[u8], out: &mut [u8]) -> Filled
         },
         Found::Word { at } => word_step(r, file, at, out),
         Found::End => Filled {
-            n: text::put_count(out, b"records ", r.count),
+            n: ascii::put_named(out, b"records ", r.count, ascii::NEWLINE),
             report: at_stage(r, Stage::Done),
         },
     }
@@ -164,7 +164,7 @@ fn stage_step(r: Report, file: &[u8], out: &mut [u8]) -> Filled
         },
         Stage::Items => item_step(r, file, out),
         Stage::Refused(number) => Filled {
-            n: text::put_count(out, b"refused ", number as u64),
+            n: ascii::put_named(out, b"refused ", number as u64, ascii::NEWLINE),
             report: at_stage(r, Stage::Done),
         },
         Stage::Done => Filled { report: r, n: 0 },

@@ -3,17 +3,8 @@ ghost use Prim.Native.Nat.{_+_, _*_, _≤_};
 ghost use mathlib.Core.List.{_++_};
 ghost use lib.ListN.{length};
 ghost use Rattle.records.specs.Records.{recordWidth};
-ghost use Rattle.ascii.specs.Text.{space, newline, numeral, mostNumber, Puts};
+ghost use Rattle.ascii.specs.Text.{space, numeral, mostNumber, Puts};
 ghost use Rattle.report.specs.Text.{line, mostLine, recordsAt, lines};
-
-// A name and a number, as a line.
-pub(crate) fn put_count(out: &mut [u8], name: &[u8], n: u64) -> usize
-    requires { ⌜ length (now name) + mostNumber ≤ length (now out) ⌝ }
-    ensures { λ r. ⌜ Puts (now (name .entry) ++ numeral n newline) (now (out .entry)) r (now (out .exit)) ⌝ }
-{
-    let used = ascii::put(out, name);
-    used + ascii::put_number(&mut out[used..], n, ascii::NEWLINE)
-}
 
 // Three numbers at the front of a line.
 fn put_three(out: &mut [u8], x: u64, y: u64, z: u64) -> usize

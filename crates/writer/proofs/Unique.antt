@@ -12,7 +12,7 @@ use Rattle.writer.specs.Write.{PackPost, WritePost, Writes, WritesData}
 pub pack-unique : {f : Fields} {first second : Packed} → PackPost f first → PackPost f second → first ≡ second
 pack-unique a b = unique (a .answer) (b .answer)
 
-written-unique : {fits : Bool} {bytes slice after after′ : List ℕ} {r r′ : ℕ} → WritePost fits bytes slice r after
+pub written-unique : {fits : Bool} {bytes slice after after′ : List ℕ} {r r′ : ℕ} → WritePost fits bytes slice r after
     → WritePost fits bytes slice r′ after′
     → (r ≡ r′) × (after ≡ after′)
 written-unique a b = (unique (a .answer) (b .answer), unique (a .slice-is) (b .slice-is))

@@ -2,7 +2,10 @@
 -- Assumes nothing.
 use borrow.Author.Needs.{needs}
 use denote.Ref.{now}
-use Rattle.ascii.proofs.Putting.{none-put}
+use Prim.Native.Nat.{_+_}
+use native.Mathlib.Omega.{arith}
+use Rattle.ascii.specs.Text.{mostNumber}
+use Rattle.ascii.proofs.Putting.{none-put, in-room}
 use Rattle.report.specs.Text.{recordsLine}
 use Rattle.report.proofs.Steps.{good-word-at, found}
 use Rattle.report.proofs.item_step.Statement.{statement}
@@ -41,7 +44,7 @@ returns-3 c =
     found (now (start .args .file)) (start .args .r) (after-next .next .ensures .answer)
     (after-enum-told .enum-told .given .1) (record {
       next-is = c .at-stage .ensures;
-      puts = c .before .before .before .put-count .ensures;
+      puts = in-room (8 + mostNumber) _ (omega (arith, start .pre .1)) (c .before .before .before .put-named .ensures .0);
     })
 
 pub item-step-spec : {M : Type 1} → statement M

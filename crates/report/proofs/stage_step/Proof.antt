@@ -5,6 +5,8 @@ use denote.Ref.{now}
 use mathlib.Core.Path.{refl, ap}
 use native.Mathlib.Omega.{arith}
 use lib.ListN.{length}
+use Prim.Native.Nat.{_+_}
+use Rattle.ascii.specs.Text.{mostNumber}
 use Rattle.ascii.proofs.Putting.{none-put, in-room}
 use Rattle.report.specs.Text.{heading, refusedLine}
 use Rattle.report.specs.Report.{reading}
@@ -41,7 +43,7 @@ returns-3 c =
     let start : tie.Start = search in
     staged (now (start .args .file)) (start .args .r) (after-stage .stage .given .1) (record {
       next-is = c .at-stage2 .ensures;
-      puts = c .before .before .before .put-count .ensures;
+      puts = in-room (8 + mostNumber) _ (omega (arith, start .pre .1)) (c .before .before .before .put-named .ensures .0);
     })
 
 returns-4 : tie.Need-returns-4
