@@ -1,0 +1,12 @@
+pub mod Digits
+pub mod Words
+pub mod Counting
+pub mod Parsing
+pub mod Writing
+pub mod Taken
+pub mod Fed
+pub mod Lines
+pub mod Pieces
+pub mod Answered
+pub mod Sentences
+pub mod Unique
