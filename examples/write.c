@@ -1,6 +1,6 @@
 /* write.c: a clean run of words from their fields, as an installer makes it before a stave is wired, and the checker over it. C99.
  *
- *     cc -std=c99 -I include examples/write.c libkhandzorul.a -o write && ./write [FILE]
+ *     cc -std=c99 -I include examples/write.c libkhandzorul.a -o writer && ./writer [FILE]
  *
  * Two pages with words of all six kinds: an IHW, two internal triggers 198 crossings apart with a CDW and data, and a DDW0. The checker, with running
  * checks, frames and a period of 198, has nothing to say of them. Prints how many words and records there were. With FILE the words go there too,

@@ -1,6 +1,6 @@
 //! write.rs: a clean run of words from their fields, and the checker over it: write.c in Rust, over the safe wrapper khandzorul.rs.
 //!
-//!     rustc -O --edition 2021 examples/write.rs -L FOLDER -l static=khandzorul -o write && ./write [FILE]
+//!     rustc -O --edition 2021 examples/write.rs -L FOLDER -l static=khandzorul -o writer && ./writer [FILE]
 //!
 //! FOLDER has libkhandzorul.a. It prints and ends as write.c does: 0 clean. 1 with records. 2 not done.
 #![allow(dead_code)] // the wrapper has more than is used here

@@ -1,8 +1,8 @@
 #!/bin/sh
-# user.sh: what a person at the bench would try with ./check, ./compare and ./run, and the answer that each must get: exit status, standard
-# output, and a word on standard error wherever nothing was checked or compared.
+# user.sh: what a person at the bench would try with ./check, ./compare, ./write and ./run, and the answer that each must get: exit status,
+# standard output, and a word on standard error wherever nothing was checked, compared or written.
 #
-#     tests/user.sh            the programs are proved and built by ./check, ./compare and ./run where they are not
+#     tests/user.sh            the programs are proved and built by ./check, ./compare, ./write and ./run where they are not
 #
 # What would spoil the checkout is tried on a copy of it. A line for each trial that fails, and for each that was left out; the last line
 # says how many there were. Exit status 1 if one failed.
@@ -64,6 +64,28 @@ unread() { # WHAT ERROR-PATTERN ARGUMENT..: what ./compare does not come to comp
     shift 2
     try_command "compare: $what" 2 "$work/nothing" "$says" ./compare "$@"
 }
+written() { # WHAT FILE TEXT-FOR-PRINTF: the bench file that ./write must print of a text
+    # shellcheck disable=SC2059 # octal escapes
+    printf "$3" >"$work/script"
+    try_command "write: $1" 0 "$2" '' ./write "$work/script"
+}
+not_written() { # WHAT NUMBER LINE TEXT-FOR-PRINTF: standard error has the refusal and why, and nothing else
+    # shellcheck disable=SC2059 # octal escapes
+    printf "$4" >"$work/script"
+    not_written_of "$1" "$2" "$3" "$work/script"
+}
+not_written_of() { # WHAT NUMBER LINE SCRIPT
+    try_command "write: $1" 2 "$work/nothing" "^write: $4: .*line $3 " ./write "$4"
+    if [ "$(head -n 1 "$work/said")" != "refused $2 at line $3" ] || [ "$(wc -l <"$work/said")" -ne 2 ]; then
+        wrong "did not say 'refused $2 at line $3' and why, but"
+        cat "$work/said"
+    fi
+}
+example() { # NAME STATUS OUTPUT-FILE: a script of examples/, written and checked
+    what="write: examples/$1.stave, checked" status=0
+    ./write "examples/$1.stave" 2>"$work/err" | ./check - >"$work/out" 2>>"$work/err" || status=$?
+    judge "$2" "$3" ''
+}
 background() { # NAME COMMAND..: leaves what it printed and said, and its exit status last
     name=$1 status=0
     shift
@@ -93,6 +115,7 @@ for f in whole_case two_pages; do sh tools/hex.sh <"examples/$f.hex" >"$work/$f"
 whole=$work/whole_case
 ./check "$whole" >/dev/null 2>"$work/err" || [ $? -eq 1 ] || { cat "$work/err"; echo "user: benchcheck is not there"; exit 1; }
 ./compare "$whole" "$whole" >/dev/null 2>"$work/err" || { cat "$work/err"; echo "user: compare is not there"; exit 1; }
+./write examples/whole_case.stave >/dev/null 2>"$work/err" || { cat "$work/err"; echo "user: benchwrite is not there"; exit 1; }
 
 try 'the whole case of document 01' 1 examples/whole_case.out '' "$whole"
 try 'a file of three packets' 1 examples/two_pages.out '' "$work/two_pages"
@@ -347,12 +370,180 @@ echo 'differences 0' >"$work/equal"
 background_ended changing
 if [ "$status" -eq 0 ]; then judge 0 "$work/equal" ''; else judge 1 "$work/one_byte" ''; fi
 
+# ./write. Each example, and what ./check must say of it: of the run of last spring, its third packet at 2000, 1045 at the second trigger and at the third.
+example clean_inner 0 "$work/none"
+example clean_outer 0 "$work/none"
+example calibration 0 "$work/none"
+printf 'packet pos code first second\n1 104 1045 3366 3564\n3 2074 1045 3564 198\nrecords 2\n' >"$work/spring"
+example last_spring 1 "$work/spring"
+example whole_case 1 examples/whole_case.out
+
+# the whole case in other forms, each the same ninety bytes
+text=examples/whole_case.stave
+same() { # WHAT: of the text in $work/script
+    try_command "write: the whole case, $1" 0 "$whole" '' ./write "$work/script"
+}
+cp $text "$work/script"
+same 'as it stands'
+printf %s "$(cat $text)" >"$work/script"
+same 'no newline at its end'
+awk '{ printf "%s\r\n", $0 }' $text >"$work/script"
+same 'lines that end in CR LF'
+tr ' ' '\t' <$text >"$work/script"
+same 'tabs'
+awk '{ print "\n \t\r \n# packet\n"; gsub(" ", " \t\r  "); print "  " $0 "\t # ihw 2 # ihw 3" }' $text >"$work/script"
+same 'blanks, empty lines and comments'
+sed 's/$/ # XY/' $text | tr XY '\377\000' >"$work/script"
+same 'bytes that are no ASCII in comments'
+(printf '#'; bytes 1000000 | tr '\000' x; cat $text) >"$work/script"
+same 'a comment of a megabyte'
+printf 'packet 0x0 007 0x0010 0xdeC 0 00 0x00000000000000000002\nihw 0000000000000000000000000001\ntdh 16 1 0 0 0xDEC 7\n%s\n%s\n%s' \
+    'data 33 0 0x0 0 0 0 0 0 0 00' 'tdt 0x0 0 0 0 0 0 1' 'tdh 0x010 0x1 1 0x00 0xc6 7' >"$work/script"
+same 'numbers spelled otherwise'
+(printf 'packet 0 7 0x10 3564 0 0 2%s#\n' "$(bytes 486 | tr '\000' ' ')"; tail -n +3 $text) >"$work/script" # the first 26 bytes and 486 blanks
+same '512 bytes before #'
+
+written 'an empty text' "$work/no_packets" ''
+written 'comments alone' "$work/no_packets" '# a stave\n\n   # to come'
+written 'a newline alone' "$work/no_packets" '\n'
+# one packet and one word; and the packet alone
+head='packet 0 7 0x10 100 0 0 2'
+fields='0000000000000000 07000000 10000000 6400 0000 00 02'
+echo "01000000 00000000 10000000 28000000 $fields 0000" | sh tools/hex.sh >"$work/one_packet"
+echo "01000000 01000000 10000000 28000000 $fields 0100 010000000000000000E0" | sh tools/hex.sh >"$work/one_ihw"
+written 'a text that ends behind a packet' "$work/one_packet" "$head"
+written 'a text that ends within its words' "$work/one_ihw" "$head\nihw 1"
+with "$work/one_packet" 16 '\000\000\000\000\000\000\000\100' 8 >"$work/far_packet" # 2 to the 62nd
+written 'the largest position' "$work/far_packet" 'packet 0x4000000000000000 7 16 100 0 0 2'
+
+# 102: the line can't be read
+for token in +1 -1 0X10 0x 0xG 1a 1.0 18446744073709551616 0x10000000000000000 00018446744073709551616 36893488147419103233 \
+    '\303\244' '1\000' '1\0132' '1\f'; do
+    not_written "the number $token" 102 2 "$head\nihw $token\n"
+done
+not_written 'too few numbers' 102 1 'packet 0 7 0x10 100 0 0\n'
+not_written 'too many numbers' 102 2 "$head\nihw 1 1\n"
+not_written 'eleven numbers' 102 3 "$head\nihw 1\ndata 0x20 0 0 0 0 0 0 0 0 0 0\n"
+not_written 'a kind without numbers' 102 2 "$head\nihw\n"
+not_written 'a kind in capitals' 102 2 "$head\nIHW 1\n"
+not_written 'a kind that is none' 102 2 "$head\nstave 1\n"
+not_written 'a NUL byte' 102 3 "$head\nihw 1\n\000\n"
+not_written 'CR alone between lines' 102 1 "$head\rihw 1\r"
+not_written 'a text in UTF-16' 102 1 '\377\376p\000a\000c\000k\000e\000t\000\n\000'
+(echo "$head"; bytes 513 | tr '\000' ' '; echo '# blanks') >"$work/blanks_513"
+not_written_of '513 blanks before #' 102 2 "$work/blanks_513"
+(printf 'packet 0 7 0x10 3564 0 0 2%s' "$(bytes 486 | tr '\000' ' ')"; printf '\r\nihw 1\n') >"$work/cr_513"
+not_written_of 'a line of 513 bytes with its CR' 102 1 "$work/cr_513"
+(echo "$head"; bytes 1000000 | tr '\000' ' ') >"$work/blanks"
+not_written_of 'a megabyte of blanks' 102 2 "$work/blanks"
+(echo "$head"; bytes 1000000 | tr '\000' a) >"$work/letters"
+not_written_of 'a megabyte of letters' 102 2 "$work/letters"
+not_written_of 'a bench file' 102 1 "$whole"
+
+# the others, and which comes first
+not_written 'an IHW of 29 lanes' 8 2 "$head\nihw 0x10000000\n"
+not_written 'a flag of 2' 8 3 "$head\nihw 1\ntdh 0x10 2 0 0 100 7\n"
+not_written 'a byte of 256' 8 2 "$head\ndata 0x20 0 0 0 0 0 0 0 0 256\n"
+not_written 'a data id that is none' 8 2 "$head\ndata 0x29 0 0 0 0 0 0 0 0 0\n"
+for most in 18446744073709551615 0xFFFFFFFFFFFFFFFF; do
+    not_written "the number $most in a word" 8 2 "$head\nihw $most\n"
+    not_written "the number $most in a packet" 5 1 "packet $most 7 16 100 0 0 2\n"
+done
+not_written 'a position past the largest' 5 1 'packet 0x4000000000000001 7 16 100 0 0 2\n'
+not_written 'an orbit of 33 bits' 5 1 'packet 0 0x100000000 16 100 0 0 2\n'
+not_written 'a packet of format 1' 5 3 '# two comments\n#\npacket 0 7 16 100 0 0 1\n'
+not_written 'a word before any packet' 2 3 '# no packet\n\nihw 1\n'
+not_written 'a wide field before any packet' 8 1 'ihw 0x10000000\n'
+not_written 'an unread word before any packet' 102 1 'ihw 0x10000000 1\n'
+not_written 'a packet out of range, with a number too many' 102 1 'packet 0 7 16 4096 0 0 2 0\n'
+not_written 'two bad lines' 8 2 "$head\nihw 0x10000000\nstave\n"
+not_written 'two bad lines, the other before' 102 2 "$head\nstave\nihw 0x10000000\n"
+
+# A packet's 4,096 words, each an IHW with lane 0.
+printf '\001\000\000\000\000\000\000\000\000\340' >"$work/ihws"
+for i in 1 2 3 4 5 6 7 8 9 10 11 12; do cat "$work/ihws" "$work/ihws" >"$work/twice"; mv "$work/twice" "$work/ihws"; done
+(echo "01000000 00100000 10000000 28000000 $fields 0010" | sh tools/hex.sh; cat "$work/ihws") >"$work/file_4096"
+ihws() { awk -v n="$1" 'BEGIN { while (n-- > 0) print "ihw 1" }'; }
+(echo "$head"; ihws 4096) >"$work/most"
+try_command 'write: 4,096 words in a packet' 0 "$work/file_4096" '' ./write "$work/most"
+(cat "$work/most"; echo 'ihw 1') >"$work/script_4097"
+not_written_of '4,097 words in a packet' 3 4098 "$work/script_4097"
+(cat "$work/most"; echo 'ihw 0x10000000') >"$work/wide_4097"
+not_written_of 'the 4,097th too wide' 8 4098 "$work/wide_4097"
+(echo "$head"; ihws 1897; cat "$work/script_4097") >"$work/both" # the 5,994th word: 3, and 60,004 bytes
+not_written_of '4,097 words in a packet, and the file too long' 3 5996 "$work/both"
+
+# the largest file of above, with an id that can be written: six packets and 5,984 words are 60,000 bytes
+tr '\107' '\106' <"$work/largest" >"$work/file_60000"
+awk 'BEGIN {
+    for (w = 0; w < 5984; w++) {
+        if (w % 1000 == 0) print "packet", w / 1000 * 65536, "0 0 0 0 0 2"
+        print "data 0x46 0 0 0 0 0 0 0 0 0"
+    }
+}' >"$work/longest"
+try_command 'write: the largest file' 0 "$work/file_60000" '' ./write "$work/longest"
+for more in '6 ihw 1' '6 packet 0 0 0 0 0 0 0' '8 ihw 0x10000000' '5 packet 0 0 0 0 0 0 1' '102 ihw'; do
+    (cat "$work/longest"; echo "${more#* }") >"$work/longer_script"
+    not_written_of "the largest file and a line more: ${more#* }" "${more%% *}" 5991 "$work/longer_script"
+done
+
+what='write: standard input' status=0
+./write - <$text >"$work/out" 2>"$work/err" || status=$?
+judge 0 "$whole" ''
+what='write: in pieces: cut in a number, in a name, between CR and LF' status=0
+(printf 'packet 0 7 16 10'; sleep 1; printf '0 0 0 2\r'; sleep 1; printf '\nih'; sleep 1; printf 'w 1') | ./write - >"$work/out" 2>"$work/err" || status=$?
+judge 0 "$work/one_ihw" ''
+what='write: a text without end' status=0
+yes | ./write - >"$work/out" 2>"$work/err" || status=$?
+judge 2 "$work/nothing" '^refused 102 at line 1$'
+what='write: a line without end' status=0
+(echo 'packet 0 7 16 100 0 0 2'; yes 'ihw 1' | tr '\n' ' ') | ./write - >"$work/out" 2>"$work/err" || status=$?
+judge 2 "$work/nothing" '^refused 102 at line 2$'
+try_command 'write: a device without end' 2 "$work/nothing" '^refused 102 at line 1$' ./write /dev/zero
+what='write: closed standard input' status=0
+./write - <&- >"$work/out" 2>"$work/err" || status=$?
+judge 2 "$work/nothing" '^write: standard input is closed'
+what='write: a folder on standard input' status=0
+./write - <. >"$work/out" 2>"$work/err" || status=$?
+judge 2 "$work/nothing" '^write: standard input could not be read'
+unwritten() { # WHAT ERROR-PATTERN ARGUMENT..
+    what=$1 says=$2
+    shift 2
+    try_command "write: $what" 2 "$work/nothing" "$says" ./write "$@"
+}
+unwritten 'a folder' "^write: $work is a folder" "$work"
+unwritten 'a file that is not there' "^write: $work/nowhere: no such file" "$work/nowhere"
+unwritten 'no file named' '^usage: ./write SCRIPT > FILE '
+unwritten 'two files' '^usage' $text $text
+if [ -w /dev/full ]; then
+    what='write: a full disk' status=0
+    ./write $text >/dev/full 2>"$work/err" || status=$?
+    : >"$work/out"
+    judge 2 "$work/nothing" '^write: the result could not be printed'
+else
+    left_out 'write: a full disk (no /dev/full)'
+fi
+what='write: closed standard output' status=0
+./write $text 2>"$work/err" >&- || status=$?
+: >"$work/out"
+judge 2 "$work/nothing" '^write: the result could not be printed'
+short_of_room() { # a file may have 100 blocks of 512 bytes, which is room for the program and not for what it writes
+    trap '' XFSZ
+    ulimit -f 100
+    ./write "$work/longest"
+}
+what='write: no room for the file in the temporary folder' status=0
+(short_of_room) >"$work/out" 2>"$work/err" || status=$?
+judge 2 "$work/nothing" '^write: the file is not whole'
+
 # from elsewhere, by its path and by links
 mkdir "$work/elsewhere"
 ln -s "$here/check" "$work/elsewhere/look"
 ln -s look "$work/elsewhere/look again"
 ln -s "$here/run" "$work/elsewhere/start"
 ln -s "$here/compare" "$work/elsewhere/set side by side"
+ln -s "$here/write" "$work/elsewhere/put down"
+cp $text "$work/elsewhere/a stave"
 cp "$whole" "$work/elsewhere/file"
 cp "$work/lane_2" "$work/elsewhere/-e"
 cp "$work/lane_2" "$work/elsewhere/a name with blanks"
@@ -366,22 +557,26 @@ try_command 'compare: through a link, a name that begins with -' 1 "$work/one_by
 try_command 'compare: a temporary folder named from there' 1 "$work/one_byte" '' env TMPDIR=tmp "$here/compare" file -e
 rmdir tmp || wrong 'left something in it'
 try_command 'compare: no temporary folder' 2 "$work/nothing" '^compare: no temporary folder' env TMPDIR=nowhere "$here/compare" file -e
+try_command 'write: from another folder, through a link' 0 "$whole" '' './put down' 'a stave'
 try_command 'run vectors' 0 "$here/crates/vectors/stdout" '' "$here/run" vectors
 try_command 'run edges, through a link' 0 "$here/crates/edges/stdout" '' ./start edges
 cd "$here"
 what='run fields' status=0
 ./run fields <crates/fields/stdin >"$work/out" 2>"$work/err" || status=$?
 judge 0 crates/fields/stdout ''
+what='run benchwrite' status=0
+./run benchwrite <crates/benchwrite/stdin >"$work/out" 2>"$work/err" || status=$?
+judge 0 crates/benchwrite/stdout ''
 try_command 'run compare' 0 crates/compare/stdout '' ./run compare
 try_command 'run a program that is none' 2 "$work/nothing" \
-    "no program 'nowhere' here; the programs are benchcheck compare edges fields vectors" ./run nowhere
+    "no program 'nowhere' here; the programs are benchcheck benchwrite compare edges fields vectors" ./run nowhere
 try_command 'run a library' 2 "$work/nothing" "no program 'words' here" ./run words
 try_command 'run an empty name' 2 "$work/nothing" "no program '' here" ./run ''
 try_command 'run a path' 2 "$work/nothing" "no program '../crates/fields' here" ./run ../crates/fields
 try_command 'run without a name' 2 "$work/nothing" 'usage' ./run
 
 # what they say of themselves; elsewhere, where only what they print of themselves can help
-for command in check compare run test tools/native-lib.sh tools/must-fail.sh; do
+for command in check compare write run test tools/native-lib.sh tools/must-fail.sh; do
     kit_help "$command" >"$work/help"
     what="$command: its head"
     grep -q "^\(${command##*/}\|The tests\)" "$work/help" || wrong 'has no line that says what it is'
@@ -392,7 +587,7 @@ done
     grep -m 1 '^## ' CHANGELOG.md | sed 's/^## /khandzorul /; s/,.*//'
     echo "Rattle kit: $(rt version)"
 } >"$work/version"
-for command in check compare run test; do
+for command in check compare write run test; do
     what="$command --version" status=0
     "./$command" --version >"$work/seen" 2>"$work/err" || status=$?
     sed 's/; the README names .*//' "$work/seen" >"$work/out"
@@ -410,6 +605,13 @@ if command -v "${CC:-cc}" >/dev/null 2>&1; then
 else
     left_out "README's box example (no C compiler)"
 fi
+
+# and its script
+sed -n '/^packet 0 7 /,/^tdt /p' README.md >"$work/script"
+what="README's script, checked" status=0
+./write "$work/script" 2>"$work/err" | ./check - >"$work/out" 2>>"$work/err" || status=$?
+judge 0 "$work/none" ''
+[ "$(grep -c . "$work/script")" -eq 5 ] || wrong 'has not five lines'
 
 # the library for another target; the one for this machine can be run
 if command -v python3 >/dev/null 2>&1; then
@@ -440,13 +642,13 @@ else
     left_out 'the library for another target (no python3)'
 fi
 
-# A copy of the checkout, with all that benchcheck and compare were proved from.
+# A copy of the checkout, with all that benchcheck, compare and benchwrite were proved from.
 copy=$work/copy
 mkdir -p "$copy/target/rlib"
-cp -Rp check compare run README.md CHANGELOG.md crates.txt crates tools "$copy"
+cp -Rp check compare write run README.md CHANGELOG.md crates.txt crates tools "$copy"
 take() {
     cp -Rp target/bin target/obj target/log target/stamp "$copy/target"
-    for program in benchcheck compare; do
+    for program in benchcheck compare benchwrite; do
         kit_below $program
         for d in $found; do [ ! -d "crates/$d" ] || cp -Rp "target/rlib/$d.rlib" "$copy/target/rlib"; done
     done
@@ -485,6 +687,17 @@ at_once whole_again 0 ''
 at_once lane_2 1 ''
 at_once two_packets 1 ''
 at_once short 2 'refused 6 1'
+# the same of ./write
+rm "$copy/target/bin/benchwrite"
+for f in nothing longest blanks_513 script_4097; do background "$f" "$copy/write" "$work/$f" & done
+wait
+cp "$work/no_packets" "$work/nothing.out"
+cp "$work/file_60000" "$work/longest.out"
+for f in blanks_513 script_4097; do : >"$work/$f.out"; done
+at_once nothing 0 ''
+at_once longest 0 ''
+at_once blanks_513 2 '^refused 102 at line 2$'
+at_once script_4097 2 '^refused 3 at line 4098$'
 : >"$copy/target/bin/compare"
 try_command 'compare: an empty program' 1 "$work/one_byte" '' "$copy/compare" "$whole" "$work/lane_2"
 
@@ -523,6 +736,12 @@ try_command 'compare: an answer that is none' 2 "$work/nothing" '^compare: refus
 head -c 5000 "$work/program" >"$copy/target/bin/compare"
 try_command 'compare: half a program' 2 "$work/nothing" '^compare: the program ended before' "$copy/compare" "$whole" "$whole"
 cp "$work/program" "$copy/target/bin/compare"
+cp "$copy/target/bin/benchwrite" "$work/program"
+cp "$copy/target/bin/benchcheck" "$copy/target/bin/benchwrite" # of a text: 'refused 6'
+try_command 'write: an answer that is none' 2 "$work/nothing" '^write: refused 6: an answer that is none' "$copy/write" $text
+head -c 5000 "$work/program" >"$copy/target/bin/benchwrite"
+try_command 'write: half a program' 2 "$work/nothing" '^write: benchwrite ended before' "$copy/write" $text
+cp "$work/program" "$copy/target/bin/benchwrite"
 
 # an empty program is built again; who watches sees it
 : >"$copy/target/bin/benchcheck"
@@ -577,6 +796,8 @@ else
     cannot="user $user can't write $copy/target"
     read_only "a folder that can't be written, proved" 1 examples/whole_case.out "note: $cannot: benchcheck is run as it was" "$copy/check" -
     read_only "compare there, proved" 1 "$work/one_byte" "note: $cannot: compare is run as it was" "$copy/compare" - "$work/lane_2"
+    cp $text "$work/stave"
+    read_only "write there, proved" 0 "$whole" "note: $cannot: benchwrite is run as it was" "$copy/write" "$work/stave"
     cp "$whole" "$work/locked"
     chmod 000 "$work/locked"
     locked="^compare: $work/locked can't be read"

@@ -1,7 +1,7 @@
 #!/usr/bin/env python3
-# inputs.py: the stdin of crates/benchcheck and of crates/fields, and their stdouts, what these programs are to print of it.
-# Of benchcheck it is the whole case of document 01, from examples/. Of fields it is the words below and three bytes behind them, each with its line, which was
-# checked by hand against docs/RULES.md.
+# inputs.py: the stdin of crates/benchcheck, of crates/benchwrite and of crates/fields, and their stdouts, what these programs are to print of it.
+# Of benchcheck it is the whole case of document 01, from examples/, and of benchwrite the same as a text. Of fields it is the words below and three bytes
+# behind them, each with its line, which was checked by hand against docs/RULES.md.
 #
 #     inputs.py            writes them
 #     inputs.py --check    exit status 1 where one is not what this script makes
@@ -39,6 +39,8 @@ if __name__ == "__main__":
     made.main({
         "benchcheck/stdin": made.from_hex("examples/whole_case.hex"),
         "benchcheck/stdout": made.read("examples/whole_case.out"),
+        "benchwrite/stdin": made.read("examples/whole_case.stave"),
+        "benchwrite/stdout": made.from_hex("examples/whole_case.hex"),
         "fields/stdin": b"".join(made.ten(w) for w, _ in FIELDS) + LEFT_OVER[0],
         "fields/stdout": "".join(line + "\n" for _, line in FIELDS + [LEFT_OVER]).encode(),
     })

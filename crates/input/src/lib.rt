@@ -8,7 +8,7 @@ pub struct Got {
 }
 
 // One read. At the end of the input it puts nothing there.
-fn read_some(fd: i32, buf: &mut [u8]) -> Got
+pub fn read_some(fd: i32, buf: &mut [u8]) -> Got
     ensures { λ r. ⌜ Counts (r .n) (now (buf .exit)) ⌝ }
 {
     let answer = libc::read(fd, buf);
