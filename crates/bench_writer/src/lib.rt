@@ -110,7 +110,8 @@ pub fn start() -> Draft
     }
 }
 
-fn refused(refusal: u8, draft: Draft) -> Added
+// An answer that leaves the file as it is: a refusal, or 0 for what adds nothing.
+pub fn unchanged(refusal: u8, draft: Draft) -> Added
     ensures { λ r. ⌜ r ≡ record { refusal = refusal; draft = draft } ⌝ }
 {
     Added {
@@ -133,12 +134,12 @@ pub fn add_packet(buffer: &mut [u8], draft: Draft, fields: PacketFields) -> Adde
         fields.stop,
         fields.format,
     ) {
-        return refused(REFUSED_PACKET, draft);
+        return unchanged(REFUSED_PACKET, draft);
     }
     let at = HEADER_BYTES + PACKET_BYTES * draft.packets;
     let end = at + Word::SIZE * draft.words;
     if MOST_BYTES < end + PACKET_BYTES {
-        return refused(REFUSED_FILE, draft);
+        return unchanged(REFUSED_FILE, draft);
     }
     shift(buffer, at, end);
     put_packet(buffer, at, fields);
@@ -158,15 +159,15 @@ pub fn add_word(buffer: &mut [u8], draft: Draft, word: [u8; 10]) -> Added
     ensures { λ r. ⌜ AddWordPost draft word (now (buffer .entry)) r (now (buffer .exit)) ⌝ }
 {
     if draft.packets == 0 {
-        return refused(REFUSED_NO_PACKET, draft);
+        return unchanged(REFUSED_NO_PACKET, draft);
     }
     if draft.last >= MAX_WORDS as usize {
-        return refused(REFUSED_FULL, draft);
+        return unchanged(REFUSED_FULL, draft);
     }
     let at = HEADER_BYTES + PACKET_BYTES * draft.packets;
     let end = at + Word::SIZE * draft.words;
     if MOST_BYTES < end + Word::SIZE {
-        return refused(REFUSED_FILE, draft);
+        return unchanged(REFUSED_FILE, draft);
     }
     let last = draft.last + 1;
     put(buffer, at - 2, last as u64, 2);

@@ -17,9 +17,11 @@ pub mod line;
 mod number;
 mod word;
 
+use ascii::NEWLINE;
 use bench_writer::Added;
 use bench_writer::Draft;
 use bench_writer::PacketFields;
+use bench_writer::unchanged;
 use line::Kind;
 use writer::WordKind;
 
@@ -28,8 +30,6 @@ pub const REFUSED_LINE: u8 = 102;
 
 // Bytes of a line before its comment: so many are held, and a line of more can't be read.
 pub const MOST_LINE: usize = 512;
-
-const NEWLINE: u8 = 0x0A;
 
 // '#'
 const HASH: u8 = 0x23;
@@ -77,15 +77,6 @@ fn packet_fields(n: [u64; 10]) -> PacketFields
         page: n[4],
         stop: n[5],
         format: n[6],
-    }
-}
-
-fn unchanged(refusal: u8, draft: Draft) -> Added
-    ensures { λ r. ⌜ r ≡ record { refusal = refusal; draft = draft } ⌝ }
-{
-    Added {
-        refusal: refusal,
-        draft: draft,
     }
 }
 
@@ -214,7 +205,7 @@ fn put_refused(out: &mut [u8], refusal: u8, line: u64) -> usize
     ensures { λ r. ⌜ r ≤ mostBytes ⌝ }
 {
     let used = ascii::put_named(out, b"refused ", refusal as u64, ascii::SPACE);
-    used + ascii::put_named(&mut out[used..], b"at line ", line, ascii::NEWLINE)
+    used + ascii::put_named(&mut out[used..], b"at line ", line, NEWLINE)
 }
 
 // The text has ended: its answer stands at the front of the buffer.

@@ -26,7 +26,7 @@ returns c =
     let start : tie.Start = search in
     let d = start .args .draft in
     let p = packetFrom (start .args .fields) in
-    refused (withPacket d) (packetIn d p (now (start .args .buffer))) 4 (out-of-range d p (fits-not (c .before))) (c .refused .ensures)
+    refused (withPacket d) (packetIn d p (now (start .args .buffer))) 4 (out-of-range d p (fits-not (c .before))) (c .unchanged .ensures)
     (start .pre)
 
 returns-2 : tie.Need-returns-2
@@ -36,7 +36,7 @@ returns-2 c =
     let d = start .args .draft in
     let p = packetFrom (start .args .fields) in
     refused (withPacket d) (packetIn d p (now (start .args .buffer))) 5
-    (no-packet-room d p (fits else1) (omega (arith, c .before .if2 .taken))) (c .refused2 .ensures) (start .pre)
+    (no-packet-room d p (fits else1) (omega (arith, c .before .if2 .taken))) (c .unchanged2 .ensures) (start .pre)
 
 returns-3 : tie.Need-returns-3
 returns-3 c =

@@ -18,7 +18,7 @@ returns c =
     let start : tie.Start = search in
     let d = start .args .draft in
     refused (withWord d) (wordIn d (start .args .word) (now (start .args .buffer))) 1 (no-packet d (c .before .if1 .taken))
-    (c .refused .ensures) (start .pre)
+    (c .unchanged .ensures) (start .pre)
 
 returns-2 : tie.Need-returns-2
 returns-2 c =
@@ -26,7 +26,7 @@ returns-2 c =
     let start : tie.Start = search in
     let d = start .args .draft in
     refused (withWord d) (wordIn d (start .args .word) (now (start .args .buffer))) 2
-    (full d (else1 .if1 .left) (omega (arith, c .before .if2 .taken))) (c .refused2 .ensures) (start .pre)
+    (full d (else1 .if1 .left) (omega (arith, c .before .if2 .taken))) (c .unchanged2 .ensures) (start .pre)
 
 returns-3 : tie.Need-returns-3
 returns-3 c =
@@ -35,7 +35,7 @@ returns-3 c =
     let start : tie.Start = search in
     let d = start .args .draft in
     refused (withWord d) (wordIn d (start .args .word) (now (start .args .buffer))) 5
-    (no-word-room d (else1 .if1 .left) (omega (arith, else2 .if2 .left)) (omega (arith, c .before .if3 .taken))) (c .refused3 .ensures) (start .pre)
+    (no-word-room d (else1 .if1 .left) (omega (arith, else2 .if2 .left)) (omega (arith, c .before .if3 .taken))) (c .unchanged3 .ensures) (start .pre)
 
 returns-4 : tie.Need-returns-4
 unfolding wordIn
