@@ -25,7 +25,7 @@ use Rattle.script.specs.declared.line.Line.{Line}
 use Rattle.script.specs.Line.{lineWith, lineOf}
 use Rattle.script.specs.Taking.{refusedLine, refusalBy, entriesBy}
 use Rattle.script.specs.Outcome.{inFirst, linesOf, hash, uncommented, mostLine, saidBy, refusalIn, entriesIn, refusedText, IsAnswer}
-use Rattle.script.specs.Outcome.{Outcome, made, refused, outcomeFrom, outcomeOf, answerBytes, answerOf}
+use Rattle.script.specs.Outcome.{Outcome, made, refused, outcomeFrom, outcomeOf, outcomeRefusal, answerBytes, answerOf}
 use Rattle.script.specs.Feeding.{State, stateOf, begun, lastLine, nextLine, heldLine, refusedWith, lineRefusal, lineTaken, lineRefused, ended}
 use Rattle.script.specs.Feeding.{withUsed, holding, inComment, fedByte, fed, fedAll, whole, HasRead, FinishPost}
 use Rattle.script.proofs.Pieces.{fed-whole}
@@ -318,6 +318,17 @@ pub answered : (buffer held : List ℕ) (pieces : List (List ℕ)) → length bu
     → take (a .n) after ≡ answerOf (whole pieces)
 unfolding answerOf
 answered buffer held pieces long long-held short a after = said (ends-so buffer held pieces long long-held short)
+
+-- The refusal beside it is that of the text, or 0.
+said-refusal : {s : State} {o : Outcome} {a : Answer} {after : List ℕ} → Final s o → FinishPost s a after → a .refusal ≡ outcomeRefusal o
+said-refusal (with-file zero holds) post = post .refusal-is ∙ zero
+said-refusal (with-line some refusal line) post = post .refusal-is ∙ refusal
+
+pub answered-refusal : (buffer held : List ℕ) (pieces : List (List ℕ)) → length buffer ≡ mostBytes → length held ≡ mostLine
+    → suc (length (whole pieces)) < lastLine
+    → (a : Answer) (after : List ℕ) → FinishPost (fedAll (stateOf buffer held begun) pieces) a after
+    → a .refusal ≡ outcomeRefusal (outcomeOf (whole pieces))
+answered-refusal buffer held pieces long long-held short a after = said-refusal (ends-so buffer held pieces long long-held short)
 
 -- What is made is fine, and a refusal is a number above 0.
 abbrev pub IsFine : Outcome → Type 0

@@ -6,14 +6,14 @@ use mathlib.Core.Path.{_≡_, sym, ap, ap₂, _∙_, subst}
 use mathlib.Core.Bool.{Bool, cond}
 use mathlib.Core.List.{List, [], _∷_, _++_, append-assoc, append-nil, map}
 use native.Mathlib.Omega.{arith}
-use borrow.Author.Tests.{eq-eqb, ne-eqb}
+use borrow.Author.Tests.{eq-eqb, ne-eqb, eqb-false}
 use lib.ListN.{length}
 use Rattle.bench_file.specs.File.{checkOf}
 use Rattle.bench_file.specs.Items.{items}
 use Rattle.bench_writer.specs.Content.{Entry, fileOf, Fine, entryOf}
 use Rattle.bench_writer.proofs.Filed.{file-checks, file-items}
-use Rattle.script.specs.Outcome.{linesOf, refusalIn, entriesIn, made, refused, outcomeFrom, outcomeOf, refusedText, answerBytes, answerOf}
-use Rattle.script.specs.Outcome.{addedBy, AllTaken}
+use Rattle.script.specs.Outcome.{linesOf, refusalIn, entriesIn, refusedText, answerBytes, answerOf, addedBy, AllTaken}
+use Rattle.script.specs.Outcome.{Outcome, made, refused, outcomeFrom, outcomeOf, outcomeRefusal}
 use Rattle.script.specs.Feeding.{lastLine}
 use Rattle.script.proofs.Answered.{IsFine, fine}
 
@@ -59,3 +59,12 @@ made-file text short all =
     let f : Fine es = subst IsFine is (fine text short) in
     let file : answerOf text ≡ fileOf es = all-taken text all in
     (ap checkOf file ∙ file-checks es f, ap (λ (l : List ℕ). map entryOf (items l)) file ∙ file-items es f)
+
+-- What stands behind a refusal of 0 is a file that is not refused: where `benchwrite` checks it, the check does not fail.
+pub always-checks : (text : List ℕ) → suc (length text) < lastLine → outcomeRefusal (outcomeOf text) ≡ 0 → checkOf (answerOf text) ≡ 0
+unfolding answerOf
+always-checks text short = by-outcome (outcomeOf text) (fine text short)
+  where
+    by-outcome : (o : Outcome) → IsFine o → outcomeRefusal o ≡ 0 → checkOf (answerBytes o) ≡ 0
+    by-outcome (made es) f zero = file-checks es f
+    by-outcome (refused n l) some zero = absurd (eqb-false n 0 some zero)

@@ -71,6 +71,11 @@ abbrev pub answerBytes : Outcome → List ℕ
 answerBytes (made es) = fileOf es
 answerBytes (refused refusal line) = refusedText refusal line
 
+-- The refusal, or 0.
+abbrev pub outcomeRefusal : Outcome → ℕ
+outcomeRefusal (made es) = 0
+outcomeRefusal (refused refusal line) = refusal
+
 unfoldable pub answerOf : List ℕ → List ℕ
 answerOf text = answerBytes (outcomeOf text)
 
