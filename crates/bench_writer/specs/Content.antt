@@ -1,4 +1,4 @@
--- 01, "Bench file", the other way: the bytes of the file that has these packets and words, in this order.
+-- Issue 25, and 01, "Bench file", the other way: the bytes of the file that has these packets and words, in this order.
 -- Assumes nothing.
 use Prim.Native.Nat.{ℕ, suc, _+_, _*_, _≤_}
 use mathlib.Core.Path.{_≡_}

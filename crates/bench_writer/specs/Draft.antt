@@ -1,5 +1,5 @@
--- A bench file that is being made in a lent buffer: behind room for the header stand the packets, each with its count, then the words. Which packet and
--- which word is refused, and what the buffer is after each call.
+-- Issue 25, a bench file that is being made in a lent buffer: behind room for the header stand the packets, each with its count, then the words. Which
+-- packet and which word is refused, and what the buffer is after each call.
 -- Assumes nothing.
 use Prim.Native.Nat.{ℕ, _+_, _-_, _≤_}
 use mathlib.Core.Path.{_≡_}

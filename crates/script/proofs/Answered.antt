@@ -29,7 +29,7 @@ use Rattle.script.specs.Outcome.{Outcome, made, refused, outcomeFrom, ou
 use Rattle.script.specs.Feeding.{State, stateOf, begun, lastLine, nextLine, heldLine, refusedWith, lineRefusal, lineTaken, lineRefused, ended}
 use Rattle.script.specs.Feeding.{withUsed, holding, inComment, fedByte, fed, fedAll, whole, HasRead, FinishPost}
 use Rattle.script.proofs.Pieces.{fed-whole}
-use Rattle.script.proofs.Fed.{stays, byte-stays, byte-ends, byte-commented, byte-held}
+use Rattle.script.proofs.Fed.{stays, refused-is, taken-is, byte-stays, byte-ends, byte-commented, byte-held}
 use Rattle.script.proofs.Lines.{commented, commented-more, uncommented-more, inFront, in-front-byte, some-line, holds-more}
 
 -- What is held while no line was refused: n is the number of the line at hand, these bytes of it were read, and the entries are those of the lines before.
@@ -60,12 +60,9 @@ refusal-is r = ap₂ (λ (l : Line) (d : Draft). refusalBy (l .kind) (l .n) d) (
 -- The line ends: the next one begins, or it is refused.
 line-ends : {s : State} {n : ℕ} {es : List Entry} {line : List ℕ} → Reads s n es line → n < lastLine → refusalIn es line ≡ 0
     → Reads (ended s) (suc n) (es ++ entriesIn line) []
-unfolding ended uncommented
+unfolding uncommented
 line-ends {s} {n} {es} {line} r small zero =
-    let none = eq-eqb (s .reading .refusal) 0 (r .none) in
-    let test = eq-eqb (lineRefusal s (heldLine s)) 0 (refusal-is r ∙ zero) in
     let taken = lineTaken s (heldLine s) in
-    let is : ended s ≡ taken = simp (none, test) in
     let next : Reads taken (suc n) (es ++ entriesIn line) [] =
     record {
       none = refl;
@@ -80,15 +77,11 @@ line-ends {s} {n} {es} {line} r small zero =
       used = refl;
       bytes = refl;
     } in
-    subst (λ (x : State). Reads x (suc n) (es ++ entriesIn line) []) (sym is) next
+    subst (λ (x : State). Reads x (suc n) (es ++ entriesIn line) []) (sym (taken-is s (r .none) (refusal-is r ∙ zero))) next
 
 line-refused : {s : State} {n : ℕ} {es : List Entry} {line : List ℕ} → Reads s n es line → eqb (refusalIn es line) 0 ≡ false
     → ended s ≡ lineRefused s (heldLine s)
-unfolding ended
-line-refused {s} r some =
-    let none = eq-eqb (s .reading .refusal) 0 (r .none) in
-    let test : eqb (lineRefusal s (heldLine s)) 0 ≡ false = ap (λ (k : ℕ). eqb k 0) (refusal-is r) ∙ some in
-    simp (none, test)
+line-refused {s} {es = es} {line} r some = refused-is s (r .none) (λ z. eqb-false (refusalIn es line) 0 some (sym (refusal-is r) ∙ z))
 
 no-comment : (t u : Bool) → (t || u) ≡ false → t ≡ false
 no-comment true u e = e

@@ -30,17 +30,17 @@ pub record Going (text : List ℕ) (from : ℕ) (n : List ℕ) (count at : ℕ) 
 pub going : (text : List ℕ) (from : ℕ) → from ≤ length text → Going text from (replicate 10 0) 0 from
 going text from h = record { so-far = []; long = refl; few = omega arith; n-is = refl; within = h; same = refl }
 
--- A word that begins somewhere ends behind it.
+-- A part that begins somewhere ends behind it.
 pub further : (text : List ℕ) (at b e : ℕ) → Begins text at b → (b ≡ length text → ⊥) → Ends text b e → b < e
 further text at b e begins more ends =
     let within = begins .within in
     let inside : b < length text = omega arith in
     ends .moves inside (begins .solid inside)
 
--- The words from a place on, where one begins and ends.
-pub words-are : (text : List ℕ) (at b e : ℕ) → Begins text at b → (b ≡ length text → ⊥) → Ends text b e
+-- The parts from a place on, where one begins and ends.
+pub parts-are : (text : List ℕ) (at b e : ℕ) → Begins text at b → (b ≡ length text → ⊥) → Ends text b e
     → tokens (drop at text) ≡ take (e - b) (drop b text) ∷ tokens (drop e text)
-words-are text at b e begins more ends = begins .same ∙ ends .word (further text at b e begins more ends)
+parts-are text at b e begins more ends = begins .same ∙ ends .word (further text at b e begins more ends)
 
 one-filled : (ns : List ℕ) (n : List ℕ) (v : ℕ) → length ns < mostNumbers → n ≡ filled ns → set n (length ns) v ≡ filled (ns ++ (v ∷ []))
 one-filled ns n v few is =
@@ -51,7 +51,7 @@ one-filled ns n v few is =
     ∙ sym (append-snoc ns v (replicate (9 - length ns) 0))
     ∙ ap (λ (m : ℕ). (ns ++ (v ∷ [])) ++ replicate m 0) k′
 
--- The next word is read as a number, where one more has its place.
+-- The next part is read as a number, where one more has its place.
 next : (text : List ℕ) (from : ℕ) (n : List ℕ) (count at b e : ℕ) {v : Value} → Begins text at b → (b ≡ length text → ⊥) → count < mostNumbers
     → Ends text b e
     → numberOf (take (e - b) (drop b text)) ≡ v
@@ -62,7 +62,7 @@ next text from n count at b e begins more few ends is g =
     let ns = g .so-far in
     let long = g .long in
     let rest : ℕ → Told = λ m. numbersOf (ns ++ (m ∷ [])) (tokens (drop e text)) in
-    g .same ∙ ap (numbersOf ns) (words-are text at b e begins more ends)
+    g .same ∙ ap (numbersOf ns) (parts-are text at b e begins more ends)
     ∙ ap (λ (t : Bool). cond t (withValue (numberOf (take (e - b) (drop b text))) rest) untold) (lt-ltb (length ns) mostNumbers (omega arith))
     ∙ ap (λ (x : Value). withValue x rest) is
 
@@ -95,29 +95,29 @@ pub no-number : (text : List ℕ) (from : ℕ) (n : List ℕ) (count at b e : �
 no-number text from n count at b e begins more few ends is g =
     tell (record { count = count; bad = true; n = n }) untold (next text from n count at b e begins more few ends is g) refl
 
--- Ten, and a word more.
+-- Ten, and a part more.
 eleventh : (ns : List ℕ) (ts : List (List ℕ)) → mostNumbers ≤ length ns → 0 < length ts → numbersOf ns ts ≡ untold
 unfolding numbersOf
 eleventh ns [] h k = absurd (omega arith)
 eleventh ns (t ∷ ts) h k =
     ap (λ (x : Bool). cond x (withValue (numberOf t) (λ n. numbersOf (ns ++ (n ∷ [])) ts)) untold) (le-ltb (length ns) mostNumbers h)
 
-some-word : (b : ℕ) (bs : List ℕ) (ts : List (List ℕ)) → 0 < length (before b bs ts)
-some-word b [] ts = omega arith
-some-word b (c ∷ cs) [] = omega arith
-some-word b (c ∷ cs) (t ∷ ts) = either (isBlank c)
+some-part : (b : ℕ) (bs : List ℕ) (ts : List (List ℕ)) → 0 < length (before b bs ts)
+some-part b [] ts = omega arith
+some-part b (c ∷ cs) [] = omega arith
+some-part b (c ∷ cs) (t ∷ ts) = either (isBlank c)
   where
     either : (x : Bool) → 0 < length (cond x ((b ∷ []) ∷ t ∷ ts) ((b ∷ t) ∷ ts))
     either true = omega arith
     either false = omega arith
 
-a-word : (text : List ℕ) (b : ℕ) → b < length text → isBlank (getD text b 0) ≡ false → 0 < length (tokens (drop b text))
+a-part : (text : List ℕ) (b : ℕ) → b < length text → isBlank (getD text b 0) ≡ false → 0 < length (tokens (drop b text))
 unfolding tokens
-a-word text b h solid =
+a-part text b h solid =
     let rest = drop (suc b) text in
     subst (λ (l : List ℕ). 0 < length (tokens l)) (sym (drop-cons text b 0 h))
     (subst (λ (x : Bool). 0 < length (cond x (tokens rest) (before (getD text b 0) rest (tokens rest)))) (sym solid)
-    (some-word (getD text b 0) rest (tokens rest)))
+    (some-part (getD text b 0) rest (tokens rest)))
 
 pub too-many : (text : List ℕ) (from : ℕ) (n : List ℕ) (count at b : ℕ) → Begins text at b → (b ≡ length text → ⊥) → mostNumbers ≤ count
     → Going text from n count at
@@ -126,11 +126,11 @@ too-many text from n count at b begins more full g =
     let within = begins .within in
     let inside : b < length text = omega arith in
     let long = g .long in
-    let word = a-word text b inside (begins .solid inside) in
+    let part = a-part text b inside (begins .solid inside) in
     tell (record { count = count; bad = true; n = n }) untold
-    (g .same ∙ ap (numbersOf (g .so-far)) (begins .same) ∙ eleventh (g .so-far) (tokens (drop b text)) (omega arith) word) refl
+    (g .same ∙ ap (numbersOf (g .so-far)) (begins .same) ∙ eleventh (g .so-far) (tokens (drop b text)) (omega arith) part) refl
 
--- No word is left.
+-- No part is left.
 all-told : (text : List ℕ) (from : ℕ) (n : List ℕ) (count at b : ℕ) → tokens (drop at text) ≡ tokens (drop b text) → length text ≤ b
     → Going text from n count at
     → Tells (numbersFrom text from) (record { count = count; bad = false; n = n })

@@ -46,11 +46,11 @@ pub stays : (s : State) → (s .reading .refusal ≡ 0 → ⊥) → ended s ≡ 
 unfolding ended
 stays s some = simp (ne-eqb (s .reading .refusal) 0 some)
 
-refused-is : (s : State) → s .reading .refusal ≡ 0 → (lineRefusal s (heldLine s) ≡ 0 → ⊥) → ended s ≡ lineRefused s (heldLine s)
+pub refused-is : (s : State) → s .reading .refusal ≡ 0 → (lineRefusal s (heldLine s) ≡ 0 → ⊥) → ended s ≡ lineRefused s (heldLine s)
 unfolding ended
 refused-is s none some = simp (eq-eqb (s .reading .refusal) 0 none, ne-eqb (lineRefusal s (heldLine s)) 0 some)
 
-taken-is : (s : State) → s .reading .refusal ≡ 0 → lineRefusal s (heldLine s) ≡ 0 → ended s ≡ lineTaken s (heldLine s)
+pub taken-is : (s : State) → s .reading .refusal ≡ 0 → lineRefusal s (heldLine s) ≡ 0 → ended s ≡ lineTaken s (heldLine s)
 unfolding ended
 taken-is s none zero = simp (eq-eqb (s .reading .refusal) 0 none, eq-eqb (lineRefusal s (heldLine s)) 0 zero)
 

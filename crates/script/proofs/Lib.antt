@@ -1,5 +1,5 @@
 pub mod Digits
-pub mod Words
+pub mod Tokens
 pub mod Counting
 pub mod Parsing
 pub mod Writing

@@ -1,4 +1,4 @@
--- From words and numbers to what a line says.
+-- From parts and numbers to what a line says.
 -- Assumes nothing.
 use Prim.Native.Nat.{ℕ, suc, _+_, _-_, _≤_, _<_}
 use mathlib.Core.Path.{_≡_, refl, sym, ap, ap₂, _∙_}
@@ -16,7 +16,7 @@ use Rattle.script.specs.declared.line.Line.{Line}
 use Rattle.script.specs.declared.line.Numbers.{Numbers}
 use Rattle.script.specs.Tokens.{tokens, Begins, Ends}
 use Rattle.script.specs.Line.{Told, told, untold, numbersOf, Tells, lineWith, sameBytes, kindOf, arityOf, lineAs, lineFrom, lineOf}
-use Rattle.script.proofs.Counting.{words-are}
+use Rattle.script.proofs.Counting.{parts-are}
 
 -- Two texts, byte by byte.
 pub record Comparing (a b : List ℕ) (i : ℕ) : Type 0 where
@@ -61,19 +61,19 @@ pub all-same : (a b : List ℕ) (i : ℕ) → length a ≤ i → length a ≡ le
 unfolding sameBytes
 all-same a b i h e g = sym (g .same ∙ ap₂ sameBytes (drop-of-length-le a h) (drop-of-length-le b {i = i} (omega arith)))
 
--- What a line says: nothing, where no word begins.
+-- What a line says: nothing, where no part begins.
 pub says-nothing : (text : List ℕ) (b : ℕ) → Begins text 0 b → b ≡ length text → lineWith Nothing [] ≡ lineOf text
 unfolding tokens lineFrom
 says-nothing text b begins end = sym (ap lineFrom (begins .same ∙ ap tokens (drop-of-length-le text {i = b} (omega arith))))
 
--- Else what its first word and its numbers say.
+-- Else what its first part and its numbers say.
 module _ (text : List ℕ) (b e : ℕ) (k : Kind) (nums : Numbers) (begins : Begins text 0 b) (more : b ≡ length text → ⊥)
     (ends : Ends text b e)
     (kind : k ≡ kindOf (take (e - b) (drop b text)))
     (tells : Tells (numbersOf [] (tokens (drop e text))) nums) where
   said : lineOf text ≡ lineAs k (numbersOf [] (tokens (drop e text)))
   unfolding lineFrom
-  said = ap lineFrom (words-are text 0 b e begins more ends) ∙ ap (λ (n : Kind). lineAs n (numbersOf [] (tokens (drop e text)))) (sym kind)
+  said = ap lineFrom (parts-are text 0 b e begins more ends) ∙ ap (λ (n : Kind). lineAs n (numbersOf [] (tokens (drop e text)))) (sym kind)
 
   pub bad-number : nums .bad ≡ true → lineWith Unreadable [] ≡ lineOf text
   bad-number bad = sym (said ∙ by-case (numbersOf [] (tokens (drop e text))) tells)

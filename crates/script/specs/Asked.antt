@@ -1,4 +1,4 @@
--- The word that a line asks for, with its numbers in the order of its fields.
+-- Issue 25, the word that a line asks for, with its numbers in the order of its fields.
 -- Assumes nothing.
 use Prim.Native.Nat.{ℕ}
 use mathlib.Core.Bool.{Bool, _&&_}

@@ -1,5 +1,5 @@
--- How a text is read: byte by byte, in pieces of any length. What the reader holds after each byte; that this comes to the outcome of the whole text is
--- proved (proofs/Answered.antt).
+-- Issue 25, how a text is read: byte by byte, in pieces of any length. What the reader holds after each byte; that this comes to the outcome of the whole
+-- text is proved (proofs/Answered.antt).
 -- Assumes nothing.
 use Prim.Native.Nat.{ℕ, suc, _+_, _^_, _-_, _≤_, _<_}
 use mathlib.Core.Path.{_≡_}
@@ -32,12 +32,13 @@ stateOf buffer held r = record { buffer = buffer; held = held; reading = r }
 abbrev pub begun : Reading
 begun = record { draft = noDraft; line = 1; used = 0; comment = false; refusal = 0 }
 
+-- The invariant of a reading and its two buffers.
 pub record GoodReading (buffer held : List ℕ) (r : Reading) : Type 0 where
   pub draft : GoodDraft buffer (r .draft)
   pub long : length held ≡ mostLine
   pub few : r .used ≤ mostLine
 
--- The line's number counts up to the last number. No text has so many lines.
+-- The line's number counts up to the last number, and stays there. `answered` is of texts that have fewer bytes.
 abbrev pub lastLine : ℕ
 lastLine = 2 ^ 64 - 1
 

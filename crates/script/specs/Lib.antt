@@ -1,4 +1,4 @@
--- A bench file from lines of text: numbers (Numbers), the words of a line (Tokens), what a line says (Line), the word it asks for (Asked), what it does to
+-- A bench file from lines of text: numbers (Numbers), the parts of a line (Tokens), what a line says (Line), the word it asks for (Asked), what it does to
 -- the file (Taking), what a whole text comes to (Outcome), and how it is read in pieces (Feeding).
 pub mod Numbers
 pub mod Tokens

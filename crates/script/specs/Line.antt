@@ -1,4 +1,4 @@
--- What a line says: the kind that its first word names, and the numbers behind it, as many as the kind has.
+-- Issue 25, what a line says: the kind that its first part names, and the numbers behind it, as many as the kind has.
 -- Assumes nothing.
 use Prim.Native.Nat.{ℕ, _-_}
 use mathlib.Core.Path.{_≡_}
@@ -21,7 +21,7 @@ use Rattle.script.specs.Tokens.{tokens}
 abbrev pub mostNumbers : ℕ
 mostNumbers = 10
 
--- The numbers of a line; none where a word is no number, or there are too many.
+-- The numbers of a line; none where a part is no number, or there are too many.
 pub data Told : Type 0 where
   told : List ℕ → Told
   untold : Told
@@ -30,7 +30,7 @@ abbrev pub withValue : Value → (ℕ → Told) → Told
 withValue (Is n) k = k n
 withValue None k = untold
 
--- The numbers that these words are, behind those so far.
+-- The numbers that these parts are, behind those so far.
 unfoldable pub numbersOf : List ℕ → List (List ℕ) → Told
 numbersOf ns [] = told ns
 numbersOf ns (t ∷ ts) = cond (ltb (length ns) mostNumbers) (withValue (numberOf t) (λ n. numbersOf (ns ++ (n ∷ [])) ts)) untold

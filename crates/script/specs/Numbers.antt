@@ -1,4 +1,4 @@
--- A number in a text: "Numbers decimal or 0x hexadecimal". It is read without bound, and tested at the end: nothing wraps.
+-- Issue 25, a number in a text: "Numbers decimal or 0x hexadecimal". It is read without bound, and tested at the end: nothing wraps.
 -- Assumes nothing.
 use Prim.Native.Nat.{ℕ, _+_, _-_, _*_, _^_}
 use mathlib.Core.Path.{_≡_}

@@ -1,4 +1,4 @@
--- What a whole text comes to: the file of its lines' packets and words, or the first bad line's refusal and number.
+-- Issue 25, what a whole text comes to: the file of its lines' packets and words, or the first bad line's refusal and number.
 -- Assumes nothing.
 use Prim.Native.Nat.{ℕ, suc}
 use mathlib.Core.Path.{_≡_}
@@ -79,7 +79,7 @@ outcomeRefusal (refused refusal line) = refusal
 unfoldable pub answerOf : List ℕ → List ℕ
 answerOf text = answerBytes (outcomeOf text)
 
--- No line of these is refused, behind these entries; and what lines add, one after the other.
+-- What lines add, one after the other; and that none of them is refused, behind these entries.
 unfoldable pub addedBy : List (List ℕ) → List Entry
 addedBy [] = []
 addedBy (l ∷ ls) = entriesIn l ++ addedBy ls

@@ -1,4 +1,4 @@
--- What a line does to the file that is being made: what it adds, and when it is refused.
+-- Issue 25, what a line does to the file that is being made: what it adds, and when it is refused.
 -- Assumes nothing.
 use Prim.Native.Nat.{ℕ}
 use mathlib.Core.Bool.{cond}

@@ -1,4 +1,4 @@
--- The words of a line, "separated by blanks".
+-- Issue 25, the parts of a line, "separated by blanks".
 -- Assumes nothing.
 use Prim.Native.Nat.{ℕ, _-_, _≤_, _<_}
 use mathlib.Core.Path.{_≡_}
@@ -12,7 +12,7 @@ use Rattle.words.specs.Lists.{Each}
 abbrev pub isBlank : ℕ → Bool
 isBlank b = eqb b 32 || (eqb b 9 || eqb b 13)
 
--- A byte before the words of what follows it: it is a word of its own, or begins the word that follows at once.
+-- A byte before the parts of what follows it: it is a part of its own, or begins the part that follows at once.
 abbrev pub before : ℕ → List ℕ → List (List ℕ) → List (List ℕ)
 before b [] ts = (b ∷ []) ∷ ts
 before b (c ∷ cs) [] = (b ∷ []) ∷ []
@@ -29,14 +29,14 @@ pub record Skips (blanks : Bool) (text : List ℕ) (from r : ℕ) : Type 0 where
   pub run : Each (λ b. isBlank b ≡ blanks) (take (r - from) (drop from text))
   pub stop : r < length text → isBlank (getD text r 0) ≡ not blanks
 
--- From a place on the words begin at r ..
+-- From a place on the parts begin at r ..
 pub record Begins (text : List ℕ) (from r : ℕ) : Type 0 where
   pub after : from ≤ r
   pub within : r ≤ length text
   pub same : tokens (drop from text) ≡ tokens (drop r text)
   pub solid : r < length text → isBlank (getD text r 0) ≡ false
 
--- .. and the word that stands there ends at r: it is the first of the words, and the others follow.
+-- .. and the part that stands there ends at r: it is the first of them, and the others follow.
 pub record Ends (text : List ℕ) (from r : ℕ) : Type 0 where
   pub after : from ≤ r
   pub within : r ≤ length text

@@ -1,4 +1,4 @@
-// A line of a text, without its end and its comment: its words, the kind that the first of them names, and the numbers behind it.
+// A line of a text, without its end and its comment: its parts, the kind that the first of them names, and the numbers behind it.
 ghost use mathlib.Core.Path.{_≡_};
 ghost use mathlib.Core.List.{[]};
 ghost use Prim.Native.Nat.{_≤_};
@@ -26,7 +26,7 @@ pub struct Line {
     pub n: [u64; 10],
 }
 
-// The numbers behind the first word of a line, or that they are none.
+// The numbers behind the first part of a line, or that they are none.
 struct Numbers {
     count: usize,
     bad: bool,
@@ -55,7 +55,7 @@ fn skip(text: &[u8], from: usize, blanks: bool) -> usize
     i
 }
 
-// Where the next word begins, from a place on; the end where there is none.
+// Where the next part begins, from a place on; the end where there is none.
 fn begin_of(text: &[u8], from: usize) -> usize
     requires { ⌜ from ≤ length (now text) ⌝ }
     ensures { λ r. ⌜ Begins (now (text .entry)) from r ⌝ }
@@ -63,7 +63,7 @@ fn begin_of(text: &[u8], from: usize) -> usize
     skip(text, from, true)
 }
 
-// Where the word that begins at a place ends.
+// Where the part that begins at a place ends.
 fn end_of(text: &[u8], from: usize) -> usize
     requires { ⌜ from ≤ length (now text) ⌝ }
     ensures { λ r. ⌜ Ends (now (text .entry)) from r ⌝ }
@@ -81,7 +81,7 @@ fn told(count: usize, bad: bool, n: [u64; 10]) -> Numbers
     }
 }
 
-// The words from a place on, as numbers.
+// The parts from a place on, as numbers.
 fn read_numbers(text: &[u8], from: usize) -> Numbers
     requires { ⌜ from ≤ length (now text) ⌝ }
     ensures { λ r. ⌜ Tells (numbersOf [] (tokens (drop from (now (text .entry))))) r ⌝ }
@@ -125,7 +125,7 @@ fn same(text: &[u8], name: &[u8]) -> bool
     true
 }
 
-// The kind that a line's first word names.
+// The kind that a line's first part names.
 fn kind_of(name: &[u8]) -> Kind
     ensures { λ r. ⌜ r ≡ kindOf (now (name .entry)) ⌝ }
 {

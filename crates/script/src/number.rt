@@ -2,7 +2,7 @@
 ghost use mathlib.Core.Path.{_≡_};
 ghost use Rattle.script.specs.Numbers.{digitOf, readAs, isHexadecimal, numberOf, IsBase};
 
-// What a word of a text is: a number below 2^64, or none.
+// What a part of a line is: a number below 2^64, or none.
 pub enum Value {
     Is(u64),
     None,

@@ -2,7 +2,7 @@
 -- Assumes nothing.
 use borrow.Author.Needs.{needs}
 use denote.Ref.{now}
-use Rattle.script.proofs.Words.{begins}
+use Rattle.script.proofs.Tokens.{begins}
 use Rattle.script.proofs.line.begin_of.Statement.{statement}
 use Rattle.script.proofs.line.begin_of.Tie as tie
 

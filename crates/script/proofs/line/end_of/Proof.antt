@@ -2,7 +2,7 @@
 -- Assumes nothing.
 use borrow.Author.Needs.{needs}
 use denote.Ref.{now}
-use Rattle.script.proofs.Words.{ends}
+use Rattle.script.proofs.Tokens.{ends}
 use Rattle.script.proofs.line.end_of.Statement.{statement}
 use Rattle.script.proofs.line.end_of.Tie as tie
 

@@ -6,7 +6,7 @@ use mathlib.Core.Path.{sym, _∙_}
 use lib.ListN.{length}
 use native.Mathlib.Omega.{arith}
 use denote.Ref.{now}
-use Rattle.script.proofs.Words.{Skipping, skip-begins, skip-on, skip-ends, opposite, alike}
+use Rattle.script.proofs.Tokens.{Skipping, skip-begins, skip-on, skip-ends, opposite, alike}
 use Rattle.script.proofs.line.skip.Statement.{statement}
 use Rattle.script.proofs.line.skip.Tie as tie
 

@@ -1,4 +1,4 @@
--- The words of a line: blanks before a word count for nothing, and a word of no blanks that ends before one, or at the end, is the first.
+-- The parts of a line: blanks before a part count for nothing, and a part of no blanks that ends before one, or at the end, is the first.
 -- Assumes nothing.
 use Prim.Native.Nat.{ℕ, suc, _+_, _-_, _≤_, _<_}
 use mathlib.Core.Path.{_≡_, refl, sym, ap, _∙_, subst}
@@ -71,7 +71,7 @@ split text from r h =
     sym (take-append-drop (r - from) (drop from text))
     ∙ ap (λ (l : List ℕ). take (r - from) (drop from text) ++ l) (drop-drop (r - from) from text ∙ ap (λ (n : ℕ). drop n text) e)
 
--- Blanks before the words of a line.
+-- Blanks before the parts of a line.
 blanks-before : (w l : List ℕ) → All true w → tokens (w ++ l) ≡ tokens l
 unfolding tokens
 blanks-before [] l all = refl
@@ -98,19 +98,19 @@ alone b [] ts h = refl
 alone b (c ∷ cs) [] h = refl
 alone b (c ∷ cs) (t ∷ ts) h = ap (λ (x : Bool). cond x ((b ∷ []) ∷ t ∷ ts) ((b ∷ t) ∷ ts)) h
 
-first-word : (b : ℕ) (w l : List ℕ) → isBlank b ≡ false → All false w → Stops l → tokens (b ∷ (w ++ l)) ≡ (b ∷ w) ∷ tokens l
+first-part : (b : ℕ) (w l : List ℕ) → isBlank b ≡ false → All false w → Stops l → tokens (b ∷ (w ++ l)) ≡ (b ∷ w) ∷ tokens l
 unfolding tokens
-first-word b [] l solid all h = ap (λ (x : Bool). cond x (tokens l) (before b l (tokens l))) solid ∙ alone b l (tokens l) h
-first-word b (c ∷ w) l solid all h =
+first-part b [] l solid all h = ap (λ (x : Bool). cond x (tokens l) (before b l (tokens l))) solid ∙ alone b l (tokens l) h
+first-part b (c ∷ w) l solid all h =
     ap (λ (x : Bool). cond x (tokens (c ∷ (w ++ l))) (before b (c ∷ (w ++ l)) (tokens (c ∷ (w ++ l))))) solid
-    ∙ ap (before b (c ∷ (w ++ l))) (first-word c w l (all .0) (all .1) h)
+    ∙ ap (before b (c ∷ (w ++ l))) (first-part c w l (all .0) (all .1) h)
     ∙ ap (λ (x : Bool). cond x ((b ∷ []) ∷ (c ∷ w) ∷ tokens l) ((b ∷ c ∷ w) ∷ tokens l)) (all .0)
 
-word-first : (w l : List ℕ) → 0 < length w → All false w → Stops l → tokens (w ++ l) ≡ w ∷ tokens l
-word-first [] l h all stop = absurd (omega arith)
-word-first (b ∷ w) l h all stop = first-word b w l (all .0) (all .1) stop
+part-first : (w l : List ℕ) → 0 < length w → All false w → Stops l → tokens (w ++ l) ≡ w ∷ tokens l
+part-first [] l h all stop = absurd (omega arith)
+part-first (b ∷ w) l h all stop = first-part b w l (all .0) (all .1) stop
 
--- A word stops where a blank or the end stands.
+-- A part stops where a blank or the end stands.
 stops : (text : List ℕ) (r : ℕ) → r ≤ length text → (r < length text → isBlank (getD text r 0) ≡ true) → Stops (drop r text)
 stops text r within blank =
     ⊎-elim (λ (e : r ≡ length text). subst Stops (sym (drop-of-length-le text {i = r} (omega arith))) tt)
@@ -130,7 +130,7 @@ ends text from r s =
           (eq-or-lt-of-le (s .after));
       word = λ more.
           ap tokens (split text from r (s .after))
-          ∙ word-first (take (r - from) (drop from text)) (drop r text)
+          ∙ part-first (take (r - from) (drop from text)) (drop r text)
           (omega (arith, length-take (r - from) (drop from text), length-drop from text, s .within, more))
           (s .run)
           (stops text r (s .within) (s .stop));
