@@ -1,4 +1,6 @@
 // Data ids and the lanes behind them. 01, "Words", "Data ids"; the Rust's words/its/data_words.rs.
+#![tactic(auto)]
+
 ghost use Rattle.std.specs.Prelude.{◌≡◌};
 ghost use Rattle.data_ids.specs.DataIds.{within, is_data_id, inner_lane, outer_lane, input_number, connector, lane_number};
 

@@ -1,5 +1,7 @@
 // What comes in beside the words: the settings of a start, a packet's header with the ranges of its fields, and where its words stand. Here stand the limits
 // and the numbers of the refusals too. Document 01, "Calls and settings" and "Bench file".
+#![tactic(auto)]
+
 ghost use Rattle.std.specs.Prelude.{◌≡◌, ◌≤◌};
 ghost use Rattle.packet.specs.Settings.{counts_orbits, settings_of};
 ghost use Rattle.packet.specs.Packet.{in_range, stride, position_of, GoodPlace};
@@ -34,7 +36,7 @@ pub const REFUSED_FILE: u8 = 6;
 pub const REFUSED_COUNTS: u8 = 7;
 
 // How the period between two internal triggers is found. 02, ticket 9: rule 1 sees the place in the orbit alone, rule 2 counts orbits too.
-#[derive(Drop)]
+#[derive(Clone, Copy)]
 pub enum Rule {
     One,
     Two,
@@ -52,7 +54,7 @@ impl Rule {
 }
 
 // Fixed at the start: running checks, frames, a period that is there or not, and the rule that finds it.
-#[derive(Drop)]
+#[derive(Clone, Copy)]
 pub struct Settings {
     pub running: bool,
     pub frames: bool,
@@ -73,7 +75,7 @@ impl Settings {
 }
 
 // What a packet's header says.
-#[derive(Drop)]
+#[derive(Clone, Copy)]
 pub struct Packet {
     pub position: u64,
     pub orbit: u32,

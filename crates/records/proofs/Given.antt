@@ -64,6 +64,11 @@ given_append position packet (x ∷ xs) ys =
     ∙ sym (append_assoc (one position packet x) (given position packet xs)
     (given position packet ys))
 
+-- No records are no numbers.
+pub flat_none : flat [] ≡ []
+unfolding flat
+flat_none = refl
+
 pub flat_append : (xs ys : List Record) → flat (xs ++ ys) ≡ flat xs ++ flat ys
 unfolding flat
 flat_append [] ys = refl

@@ -1,5 +1,7 @@
 // The records of a word: rows, each with a condition, of which those that hold are written into a lent buffer.
 // Document 01, "Calls and settings": "A record is four 64-bit numbers: position, code, first, second"; 02, ticket 7: and fifth the count of packets.
+#![tactic(auto)]
+
 ghost use Rattle.std.specs.Prelude.{◌≡◌, cond, ◌+◌, ◌≤◌, length};
 ghost use Rattle.words.specs.Lists.{over};
 ghost use Rattle.records.specs.Records.{record_width, when, none, silent, count, record_at, numbers, WritePost};
@@ -11,7 +13,7 @@ pub const RECORD_WIDTH: usize = 5;
 pub const MOST_RECORDS: usize = 6;
 
 // A record's code and its two numbers, and whether it is given. The position is the word's, and the count of packets the tracker's.
-#[derive(Drop)]
+#[derive(Clone, Copy)]
 pub struct Row {
     pub on: bool,
     pub code: u64,
@@ -20,7 +22,7 @@ pub struct Row {
 }
 
 // What writing the records of a word gives: how many, or that they exceed the room.
-#[derive(Drop)]
+#[derive(Clone, Copy)]
 pub enum Written {
     Records(u64),
     NoRoom,
@@ -92,6 +94,7 @@ fn put(out: &mut [u64], position: u64, packet: u64, row: Row)
 
 // The records that are given, at the front of a buffer, whose rest stays. Where they exceed its room nothing is written; that is asked by a product, since a
 // division by five takes four instructions more.
+#[tactic(auto, using(crate::proofs::Given::counted))]
 pub fn write(out: &mut [u64], position: u64, packet: u64, rows: [Row; MOST_RECORDS]) -> Written
     ensures { WritePost position packet rows out.old result out.new }
 {

@@ -1,15 +1,17 @@
 // What is kept of the words of a link: the last IHW, TDH, internal TDH and CDW, and the open frame. 01, "Records": what is stored where.
+#![tactic(auto)]
+
 pub mod next;
 
 // Of the IHW stored last, what is read again.
-#[derive(Drop)]
+#[derive(Clone, Copy)]
 pub struct StoredIhw {
     pub present: bool,
     pub lanes: u32,
 }
 
 // Of the TDH stored last, what is read again.
-#[derive(Drop)]
+#[derive(Clone, Copy)]
 pub struct StoredTdh {
     pub present: bool,
     pub trigger: u16,
@@ -18,7 +20,7 @@ pub struct StoredTdh {
 }
 
 // Of the last TDH with internal trigger, what is read again.
-#[derive(Drop)]
+#[derive(Clone, Copy)]
 pub struct InternalTdh {
     pub present: bool,
     pub bc: u16,
@@ -26,14 +28,14 @@ pub struct InternalTdh {
 }
 
 // Of the CDW stored last, what is read again.
-#[derive(Drop)]
+#[derive(Clone, Copy)]
 pub struct StoredCdw {
     pub present: bool,
     pub user: u64,
 }
 
 // What is stored of the words before.
-#[derive(Drop)]
+#[derive(Clone, Copy)]
 pub struct Stored {
     pub ihw: StoredIhw,
     pub tdh: StoredTdh,
@@ -42,14 +44,14 @@ pub struct Stored {
 }
 
 // Whether a frame is open, and where it started.
-#[derive(Drop)]
+#[derive(Clone, Copy)]
 pub struct Frame {
     pub opened: bool,
     pub start: u64,
 }
 
 // What a word did to the frame.
-#[derive(Drop)]
+#[derive(Clone, Copy)]
 pub enum FrameTold {
     Nothing,
     Opened,

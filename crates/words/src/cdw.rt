@@ -4,7 +4,7 @@ ghost use Rattle.words.specs.Cdw.{user_fields, word_index};
 
 use crate::Word;
 
-#[derive(Drop)]
+#[derive(Clone, Copy)]
 pub struct Cdw {
     pub word: Word,
 }

@@ -4,7 +4,7 @@ ghost use Rattle.words.specs.Ddw.{lane_starts_violation, transmission_timeout, i
 
 use crate::Word;
 
-#[derive(Drop)]
+#[derive(Clone, Copy)]
 pub struct Ddw0 {
     pub word: Word,
 }

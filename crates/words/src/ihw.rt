@@ -4,13 +4,13 @@ ghost use Rattle.words.specs.Ihw.{active_lanes, ihw_answer, reserved, is_reserve
 
 use crate::Word;
 
-#[derive(Drop)]
+#[derive(Clone, Copy)]
 pub struct Ihw {
     pub word: Word,
 }
 
 // What reading an IHW answers: its active lanes, and how many it switches on.
-#[derive(Drop)]
+#[derive(Clone, Copy)]
 pub struct IhwAnswer {
     pub active: u32,
     pub on: u32,

@@ -17,7 +17,7 @@ pub fn is_lane_active(lane: u8, active_lanes: u32) -> bool
 }
 
 // What is answered to the question whether a lane is active.
-#[derive(Drop)]
+#[derive(Clone, Copy)]
 pub enum LaneAnswer {
     Active,
     NotActive,

@@ -1,5 +1,7 @@
 // A word of ten bytes, loaded once as two numbers, and the words of the ITS payload as readers over it.
 // Document 01, "Words"; the Rust's words/its/status_words.rs and the files below it.
+#![tactic(auto)]
+
 ghost use Rattle.std.specs.Prelude.{◌≡◌, ◌+◌, ◌-◌, ◌^◌, ◌<◌, ◌≤◌, length, take, drop};
 ghost use Rattle.words.specs.Word.{word_bytes, word_of, FromBufPost, id_of, bits, is_set};
 
@@ -13,14 +15,14 @@ pub mod tdh;
 pub mod tdt;
 
 // Bits 63:0 and bits 79:64.
-#[derive(Drop)]
+#[derive(Clone, Copy)]
 pub struct Word {
     pub lo: u64,
     pub hi: u16,
 }
 
 // What a buffer is read as: a word, or the number of the refusal.
-#[derive(Drop)]
+#[derive(Clone, Copy)]
 pub enum FromBuf {
     Is(Word),
     Refused(u8),

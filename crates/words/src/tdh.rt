@@ -5,7 +5,7 @@ ghost use Rattle.words.specs.Tdh.{is_reserved0};
 
 use crate::Word;
 
-#[derive(Drop)]
+#[derive(Clone, Copy)]
 pub struct Tdh {
     pub word: Word,
 }

@@ -5,7 +5,7 @@ ghost use Rattle.words.specs.Tdt.{lane_starts_violation, transmission_timeout, p
 
 use crate::Word;
 
-#[derive(Drop)]
+#[derive(Clone, Copy)]
 pub struct Tdt {
     pub word: Word,
 }
