@@ -15,7 +15,7 @@ use Rattle.payload_fsm.specs.declared.State.{State}
 use Rattle.payload_fsm.specs.declared.State.TheVariants as S
 use Rattle.payload_fsm.specs.declared.Advanced.{Advanced}
 use Rattle.payload_fsm.specs.Step.{next_state}
-use Rattle.payload_fsm.specs.Rust.{Nine, ihw, tdh, dat, c-dat, three, c-ihw, c-tdh, ddw0, ddw0-or-tdh, Event, Arrow, on, arrows, nine}
+use Rattle.payload_fsm.specs.Rust.{Nine, ihw, tdh, dat, c_dat, three, c_ihw, c_tdh, ddw0, ddw0_or_tdh, Event, Arrow, on, arrows, nine}
 use Rattle.payload_fsm.proofs.Rows.{choice, data_rows_lem, three_rows}
 
 -- Neither DDW0_ nor DDW0_or_TDH_.
@@ -23,12 +23,12 @@ abbrev reached : Nine → Bool
 reached ihw = true
 reached tdh = true
 reached dat = true
-reached c-dat = true
+reached c_dat = true
 reached three = true
-reached c-ihw = true
-reached c-tdh = true
+reached c_ihw = true
+reached c_tdh = true
 reached ddw0 = false
-reached ddw0-or-tdh = false
+reached ddw0_or_tdh = false
 
 -- A test that each arrow of a list passes, and that then any of them does.
 abbrev every : (Arrow → Bool) → List Arrow → Bool
@@ -54,7 +54,7 @@ ends : (a : Arrow) → Memᴰ a arrows → T (reached a.target)
 ends = each (λ a. reached a.target) arrows tt
 
 -- "`DDW0_` and `DDW0_or_TDH_` are the target of no event."
-pub unreached : (a : Arrow) → Memᴰ a arrows → (a.target ≡ ddw0 → ⊥) × (a.target ≡ ddw0-or-tdh → ⊥)
+pub unreached : (a : Arrow) → Memᴰ a arrows → (a.target ≡ ddw0 → ⊥) × (a.target ≡ ddw0_or_tdh → ⊥)
 unreached a m =
     (λ e. subst (λ (n : Nine). T (reached n)) e (ends a m), λ e. subst (λ (n : Nine). T (reached n)) e (ends a m))
 

@@ -5,120 +5,25 @@ use Prim.Native.Nat.{ℕ}
 use mathlib.Core.Path.{◌≡◌, refl, sym, ap, ◌∙◌}
 use mathlib.Core.Bool.{Bool, true, false, true≢false}
 use mathlib.Core.List.{List, [], ◌∷◌, ◌++◌}
-use mathlib.Core.Logic.{◌⊎◌, inl, inr, ⊎_elim}
+use mathlib.Core.Logic.{inl, inr, ⊎_elim}
 use lib.Dec.{eqb}
-use borrow.Author.Tests.{eq-eqb, ne_eqb}
+use borrow.Author.Tests.{eq-eqb}
 use Rattle.words.specs.declared.Word.{Word}
 use Rattle.words.specs.Word.{id_of}
 use Rattle.words.specs.Tdh.{tdh_id, no_data}
 use Rattle.words.specs.Tdt.{tdt_id, packet_done}
 use Rattle.words.specs.Ihw.{ihw_id}
 use Rattle.words.specs.Ddw.{ddw0_id}
-use Rattle.words.specs.Cdw.{cdw_id}
 use Rattle.data_ids.specs.DataIds.{is_data_id}
 use Rattle.payload_fsm.specs.declared.State.{State}
 use Rattle.payload_fsm.specs.declared.State.TheVariants as S
 use Rattle.payload_fsm.specs.declared.ItsPayloadWord.TheVariants as K
-use Rattle.payload_fsm.specs.declared.Advanced.{Advanced}
 use Rattle.payload_fsm.specs.Step.{taken, guess, after_tdh, in_data, in_three, advance_of, next_state}
-use Rattle.payload_fsm.specs.Settle.{DataClear, TdtDone, TdhClear, Marker, three_data, short_frame, state_after}
+use Rattle.payload_fsm.specs.Settle.{DataClear, TdtDone, TdhClear, Marker, short_frame, state_after}
 use Rattle.payload_fsm.proofs.Rows.{choice}
-
--- The state of a row.
-abbrev state_of : Advanced → State
-state_of a = a.fsm.state
-
--- Among data a word that is no TDT is a CDW, a data word or a guessed one: the state stays.
-stays : (w : Word) → eqb (id_of w) tdt_id ≡ false → (state : State) → state_of (in_data state w) ≡ state
-stays w no_tdt state =
-    let Stays : Advanced → Type 0 = λ a. state_of a ≡ state in
-    rw no_tdt (choice Stays (eqb (id_of w) cdw_id) refl (choice Stays (is_data_id (id_of w)) refl refl))
-
--- Where a word with bit 13 clear leads that is no TDT. Only the three-way state asks which word it is; `three` is where that one leads.
-abbrev onward : State → State → State
-onward three S.Ihw = S.Tdh
-onward three S.Tdh = S.Data
-onward three S.Data = S.Data
-onward three S.CData = S.CData
-onward three S.Three = three
-onward three S.CIhw = S.CTdh
-onward three S.CTdh = S.CData
-
-module _ (w : Word) (row : Advanced) (clear : no_data w ≡ 0) (no_tdt : eqb (id_of w) tdt_id ≡ false)
-    (in_three : in_three w ≡ row) where
-  goes : (state : State) → next_state state w ≡ onward (state_of row) state
-  goes S.Ihw = refl
-  goes S.Tdh = simp (eq-eqb _ _ clear)
-  goes S.Data = stays w no_tdt S.Data
-  goes S.CData = stays w no_tdt S.CData
-  goes S.Three = ap state_of in_three
-  goes S.CIhw = refl
-  goes S.CTdh = refl
-
--- A data word leads from the three-way state to IHW_, taken as a guessed DDW0; a TDH leads to DATA_.
-data_goes : (w : Word) → DataClear w → (state : State) → next_state state w ≡ onward S.Ihw state
-data_goes w d = goes w (guess K.Ddw0 S.Ihw) d.clear (other tdt_id refl)
-    (simp (other tdh_id refl, other ddw0_id refl, other ihw_id refl))
-  where
-    other : (id : ℕ) → is_data_id id ≡ false → eqb (id_of w) id ≡ false
-    other id e = ne_eqb (id_of w) id (λ q. true≢false (sym d.data_id ∙ ap is_data_id q ∙ e))
-
-tdh_goes : (w : Word) → TdhClear w → (state : State) → next_state state w ≡ onward S.Data state
-tdh_goes w t =
-    let no_tdt = ap (λ (id : ℕ). eqb id tdt_id) t.tdh_id_is in
-    goes w (taken K.TdhAfterPacketDone S.Data) t.clear no_tdt (simp (eq-eqb _ _ t.tdh_id_is, eq-eqb _ _ t.clear))
-
--- Among data: DATA_ or c_DATA_. Three data words lead there, and so do a TDH and one data word.
-abbrev pub AmongData : State → Type 0
-AmongData state = (state ≡ S.Data) ⊎ (state ≡ S.CData)
-
-three_data_among : (state : State) → AmongData (onward S.Ihw (onward S.Ihw (onward S.Ihw state)))
-three_data_among S.Ihw = inl refl
-three_data_among S.Tdh = inl refl
-three_data_among S.Data = inl refl
-three_data_among S.CData = inr refl
-three_data_among S.Three = inl refl
-three_data_among S.CIhw = inr refl
-three_data_among S.CTdh = inr refl
-
-short_frame_among : (state : State) → AmongData (onward S.Ihw (onward S.Data state))
-short_frame_among S.Ihw = inl refl
-short_frame_among S.Tdh = inl refl
-short_frame_among S.Data = inl refl
-short_frame_among S.CData = inr refl
-short_frame_among S.Three = inl refl
-short_frame_among S.CIhw = inr refl
-short_frame_among S.CTdh = inr refl
-
--- A marker without its TDT leads there; the TDT is its last word.
-pub record Closes (words : List Word) : Type 0 where
-  pub front : List Word
-  pub last : Word
-  pub is : words ≡ front ++ (last ∷ [])
-  pub among : (state : State) → AmongData (state_after state front)
-  pub done : TdtDone last
-
-pub marker_closes : {words : List Word} → Marker words → Closes words
-unfolding state_after
-marker_closes (three_data {a = a} {b = b} {c = c} {d = d} da db dc t) =
-    record {
-      front = a ∷ b ∷ c ∷ [];
-      last = d;
-      is = refl;
-      among =
-          λ state.
-          rw (data_goes a da state, data_goes b db (onward S.Ihw state), data_goes c dc (onward S.Ihw (onward S.Ihw state)))
-          (three_data_among state);
-      done = t;
-    }
-marker_closes (short_frame {h = h} {a = a} {d = d} th da t) =
-    record {
-      front = h ∷ a ∷ [];
-      last = d;
-      is = refl;
-      among = λ state. rw (tdh_goes h th state, data_goes a da (onward S.Data state)) (short_frame_among state);
-      done = t;
-    }
+use Rattle.payload_fsm.proofs.Onward.{state_of, stays, data_goes, tdh_goes, Closes}
+pub use Rattle.payload_fsm.proofs.Onward.{AmongData}
+unfoldable pub use Rattle.payload_fsm.proofs.Marking.{marker_closes}
 
 -- There a TDT with packet done is taken as TDT, and leads to the three-way state.
 pub closes : (state : State) (d : Word) → AmongData state → TdtDone d → advance_of state d ≡ taken K.Tdt S.Three
@@ -130,7 +35,7 @@ pub after_append : (state : State) (xs ys : List Word)
     → state_after state (xs ++ ys) ≡ state_after (state_after state xs) ys
 unfolding state_after
 after_append state [] ys = refl
-after_append state (x ∷ xs) ys = after_append _ xs ys
+after_append state (x ∷ xs) ys = after_append (next_state state x) xs ys
 
 close_settles : {words : List Word} → Closes words → (state : State) → state_after state words ≡ S.Three
 unfolding state_after

@@ -1,5 +1,7 @@
 // The state machine of an ITS payload in continuous mode: what a word is taken as, and the next state.
 // Document 01, "The tracker"; the Rust's its_payload_fsm_cont.rs.
+#![tactic(auto)]
+
 ghost use Rattle.std.specs.Prelude.{◌≡◌};
 ghost use Rattle.payload_fsm.specs.Kinds.{kind_number, is_ihw, is_tdh, is_data, is_tdt};
 ghost use Rattle.payload_fsm.specs.Step.{start, is_three, taken, guess, after_tdh, in_data, in_three, advance_of};
@@ -12,7 +14,7 @@ use words::tdh::Tdh;
 use words::tdt::Tdt;
 
 // The states that are reached, each with the Rust's name.
-#[derive(Drop)]
+#[derive(Clone, Copy)]
 pub enum State {
     // IHW_, where a machine starts
     Ihw,
@@ -48,7 +50,7 @@ impl State {
 }
 
 // What a word is taken as.
-#[derive(Drop)]
+#[derive(Clone, Copy)]
 pub enum ItsPayloadWord {
     Ihw,
     IhwContinuation,
@@ -61,13 +63,13 @@ pub enum ItsPayloadWord {
     Ddw0,
 }
 
-#[derive(Drop)]
+#[derive(Clone, Copy)]
 pub struct ItsPayloadFsmContinuous {
     pub state: State,
 }
 
 // What a word was taken as, whether that was a guess, and the machine after it.
-#[derive(Drop)]
+#[derive(Clone, Copy)]
 pub struct Advanced {
     pub word: ItsPayloadWord,
     pub guessed: bool,

@@ -46,7 +46,8 @@ fields_in K.Ihw w = F.Ihw (Ihw.active_lanes w)
 fields_in K.Tdh w =
     F.Tdh (Tdh.trigger_type w) (Tdh.internal_trigger w) (Tdh.no_data w) (Tdh.continuation w) (Tdh.trigger_bc w) (Tdh.trigger_orbit w)
 fields_in K.Tdt w =
-    F.Tdt (lane_status27to0 w) (flag (Tdt.timeout_to_start w)) (flag (Tdt.timeout_start_stop w)) (flag (Tdt.timeout_in_idle w)) (flag (Tdt.lane_starts_violation w))
+    F.Tdt (lane_status27to0 w) (flag (Tdt.timeout_to_start w)) (flag (Tdt.timeout_start_stop w))
+    (flag (Tdt.timeout_in_idle w)) (flag (Tdt.lane_starts_violation w))
     (flag (Tdt.transmission_timeout w))
     (flag (Tdt.packet_done w))
 fields_in K.Ddw0 w = F.Ddw0 (lane_status27to0 w) (flag (Ddw.lane_starts_violation w)) (flag (Ddw.transmission_timeout w)) (Ddw.index w)

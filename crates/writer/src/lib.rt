@@ -1,4 +1,6 @@
 // A writer of words: from fields to the ten bytes. 02, ticket 1, for boxes that are tested before a stave is wired.
+#![tactic(auto)]
+
 ghost use Rattle.std.specs.Prelude.{◌≡◌, [], ◌∷◌, ◌++◌, length};
 ghost use Rattle.writer.specs.Write.{bytes_of, data_bytes, fields_in, PackPost, Writes, WritesData};
 ghost use Rattle.words.specs.Word.{word_bytes, word_of, value};
@@ -15,7 +17,7 @@ pub const REFUSED_FIELD: u8 = 8;
 pub const DATA_BYTES: usize = 9;
 
 // The kinds of word that can be written and read back.
-#[derive(Drop)]
+#[derive(Clone, Copy)]
 pub enum WordKind {
     Ihw,
     Tdh,
@@ -27,7 +29,7 @@ pub enum WordKind {
 
 // The fields of a word of each kind. Each is a number of 64 bits, flags too, so that one that is too wide is seen and refused.
 // An enum can hold no array: the nine bytes of a data word are the numbers low, bits 63:0, and high, bits 71:64.
-#[derive(Drop)]
+#[derive(Clone, Copy)]
 pub enum Fields {
     Ihw {
         active_lanes: u64,
@@ -81,7 +83,7 @@ pub fn read(kind: WordKind, word: Word) -> Fields
 }
 
 // What fields are packed as: a word, or the number of the refusal.
-#[derive(Drop)]
+#[derive(Clone, Copy)]
 pub enum Packed {
     Is(Word),
     Refused(u8),
