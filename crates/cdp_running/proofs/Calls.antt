@@ -6,7 +6,7 @@ use mathlib.Core.Bool.{Bool, true, false, cond}
 use mathlib.Core.List.{List}
 use lib.Dec.{eqb}
 use lib.ListN.{length}
-use borrow.Author.Tests.{le-leb, lt-leb, lt-ltb, le-ltb}
+use borrow.Author.Tests.{le-leb, lt-leb, lt-ltb, le-ltb, eq-eqb, ne_eqb}
 use Rattle.words.specs.declared.Word.{Word}
 use Rattle.words.specs.declared.FromBuf.{FromBuf}
 use Rattle.words.specs.declared.FromBuf.TheVariants as B
@@ -154,3 +154,13 @@ module _ (t : Tracker) (bytes buffer : List ℕ) (g : Good t) where
             met (taken_of t (word_of bytes)) (reached ∙ simp fits.0)
             (a ∙ ap (taken_answer t (taken_as t (word_of bytes)) (word_of bytes)) fits.1) is
             (good_next t (word_of bytes) g p h)
+
+-- What the word call comes to where the bytes are no word, and in a full packet.
+pub short_is : (t : Tracker) (bytes : List ℕ) (places : ℕ) → (length bytes ≡ 10 → ⊥) → word_call t bytes places ≡ refused 1
+unfolding word_call
+short_is t bytes places b = simp (ne_eqb _ _ b)
+
+pub full_is : (t : Tracker) (bytes : List ℕ) (places : ℕ) → length bytes ≡ 10 → t.accepted ≡ true → max_words ≤ t.at.count
+    → word_call t bytes places ≡ refused 3
+unfolding word_call
+full_is t bytes places b p h = simp (eq-eqb _ _ b, p, le-leb _ _ h)

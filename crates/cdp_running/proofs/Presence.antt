@@ -1,7 +1,7 @@
 -- What is read is stored: outside the start state an IHW was taken, and after TDH_ a TDH was. So no `unwrap` of the Rust meets a missing word.
 -- Assumes nothing.
 use mathlib.Core.Path.{◌≡◌, refl, sym}
-use mathlib.Core.Bool.{true, false, ◌||◌, or-true, true≢false}
+use mathlib.Core.Bool.{true, ◌||◌, or-true, true≢false}
 use Rattle.words.specs.declared.Word.{Word}
 use Rattle.payload_fsm.specs.declared.State.{State}
 use Rattle.payload_fsm.specs.declared.State.TheVariants as S

@@ -1,5 +1,7 @@
 // The tracker and its calls: start, packet, word, reset. The call for a whole payload stands above, in the crate payload.
 // Document 01, "Calls and settings" and "Records"; the Rust's cdp_running.rs.
+#![tactic(auto)]
+
 ghost use Rattle.std.specs.Prelude.{◌≡◌};
 ghost use Rattle.records.specs.Records.{padded};
 ghost use Rattle.cdp_running.specs.Tracker.{Good, start_of, reset_of, PacketPost};
@@ -18,7 +20,7 @@ use stored::{Frame, FrameTold, InternalTdh, Stored, StoredCdw, StoredIhw, Stored
 use words::{FromBuf, Word};
 
 // Where in the words the tracker is: the state, how many of the packet's words were taken, and whether data was among them.
-#[derive(Drop)]
+#[derive(Clone, Copy)]
 pub struct At {
     pub fsm: ItsPayloadFsmContinuous,
     pub count: u16,
@@ -26,7 +28,7 @@ pub struct At {
 }
 
 // All that is kept from one call to the next: among it how many packets were accepted since the start. What is absent is all zeros.
-#[derive(Drop)]
+#[derive(Clone, Copy)]
 pub struct Tracker {
     pub settings: Settings,
     pub accepted: bool,
@@ -38,7 +40,7 @@ pub struct Tracker {
 }
 
 // What is told of a word that was taken.
-#[derive(Drop)]
+#[derive(Clone, Copy)]
 pub struct Taken {
     pub kind: ItsPayloadWord,
     pub guessed: bool,
@@ -48,7 +50,7 @@ pub struct Taken {
 }
 
 // What a word call tells: of a word that was taken, or the number of the refusal.
-#[derive(Drop)]
+#[derive(Clone, Copy)]
 pub enum Told {
     Taken(Taken),
     Refused(u8),
@@ -76,14 +78,14 @@ impl Told {
     }
 }
 
-#[derive(Drop)]
+#[derive(Clone, Copy)]
 pub struct WordAnswer {
     pub tracker: Tracker,
     pub told: Told,
 }
 
 // Refusal 0: the packet was accepted.
-#[derive(Drop)]
+#[derive(Clone, Copy)]
 pub struct PacketAnswer {
     pub tracker: Tracker,
     pub refusal: u8,
@@ -198,6 +200,7 @@ impl Tracker {
     }
 
     // A packet: where its words stand and what they are checked against. Refusals 5 and 10 leave everything.
+    #[tactic(auto, using(crate::proofs::Calls::packet_5, crate::proofs::Calls::packet_10))]
     pub fn packet(self, packet: Packet) -> PacketAnswer
         requires { Good self }
         ensures { PacketPost self packet result }
@@ -242,6 +245,7 @@ impl Tracker {
     }
 
     // One word: its records stand at the front of out, whose rest stays. A refusal leaves both.
+    #[tactic(auto, using(crate::proofs::Calls::full_is, records::proofs::Given::flat_none))]
     pub fn word(self, bytes: &[u8], out: &mut [u64]) -> WordAnswer
         requires { Good self }
         ensures { WordPost self bytes.now out.old result out.new }

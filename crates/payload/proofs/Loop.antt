@@ -74,6 +74,16 @@ denied : (t : Tracker) (o : Outcome) {r : WordAnswer} {n : ℕ} → r ≡ W.word
 denied t (taken x) e q = (cc, cc)
 denied t (refused m) e q = (cc, cc)
 
+-- What a payload call comes to where it is refused before its first word.
+pub uneven_is : (t : Tracker) (b : List ℕ) (places : ℕ) → (length b % 10 ≡ 0 → ⊥) → payload_call t b places ≡ stop t 1
+unfolding payload_call
+uneven_is t b places h = simp (ne_eqb _ _ h)
+
+pub no_packet_is : (t : Tracker) (b : List ℕ) (places : ℕ) → length b % 10 ≡ 0 → t.accepted ≡ false
+    → payload_call t b places ≡ stop t 2
+unfolding payload_call
+no_packet_is t b places h e = simp (eq-eqb _ _ h, e)
+
 module _ {t : Tracker} {b out₀ : List ℕ} where
   -- The contract, from what the payload call comes to.
   post : {cur : Tracker} {words count n : ℕ} {out : List ℕ} (rs : List Record) → payload_call t b (room out₀)

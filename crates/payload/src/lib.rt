@@ -1,5 +1,7 @@
 // A payload: its words in order, up to a refusal. Document 01, "Calls and settings": "A payload call does words in order".
 // Each word is handed to the word call. The exported call goes over the numbers of a tracker in place instead, in the crate in_place.
+#![tactic(auto)]
+
 ghost use Rattle.std.specs.Prelude.{◌≤◌, length, take};
 ghost use Rattle.words.specs.Word.{word_bytes};
 ghost use Rattle.cdp_running.specs.Tracker.{Good};
@@ -11,7 +13,7 @@ use packet::REFUSED_NO_PACKET;
 use words::Word;
 
 // Refusal 0: all words were taken. Words taken and records written count up to a refusal.
-#[derive(Drop)]
+#[derive(Clone, Copy)]
 pub struct PayloadAnswer {
     pub tracker: Tracker,
     pub words: u64,
@@ -29,6 +31,7 @@ fn first_word(t: Tracker, rest: &[u8], out: &mut [u64]) -> WordAnswer
 }
 
 // A payload. The records of its words stand at the front of out, whose rest stays; at a refusal those of the words before it.
+#[tactic(auto, using(crate::proofs::Loop::uneven_is, crate::proofs::Loop::no_packet_is, records::proofs::Given::flat_none))]
 pub fn payload(t: Tracker, bytes: &[u8], out: &mut [u64]) -> PayloadAnswer
     requires { Good t }
     ensures { PayloadPost t bytes.now out.old result out.new }

@@ -1,7 +1,8 @@
 -- 02, ticket 9: the orbit difference is one, and no other number is. Where rule 2 gives a period, its remainder by 3564 is rule 1's; and where fewer than
 -- 2^31 orbits lie between two triggers, it is the number of crossings from the one to the other.
 -- Assumes nothing.
-use Rattle.std.proofs.Common.{◌≡◌, ℕ, ◌+◌, ◌-◌, ◌*◌, ◌%◌, ◌^◌, ◌<◌, ◌≤◌, Bool, true, false, ◌&&◌, ◌||◌, eqb, ltb, leb, refl, true≢false, arith, ltb-false, le-ltb, eqb-true}
+use Rattle.std.proofs.Common.{◌≡◌, ℕ, ◌+◌, ◌-◌, ◌*◌, ◌%◌, ◌^◌, ◌<◌, ◌≤◌, Bool, true, false, ◌&&◌, ◌||◌, eqb, ltb, leb}
+use Rattle.std.proofs.Common.{refl, true≢false, arith, ltb-false, le-ltb, eqb-true}
 use borrow.Author.Tests.{eqb-false, lt-leb}
 use Rattle.tdh_validator.specs.Tdh.{Legal, crossings, period, IsOrbitDifference, orbit_difference, ran_back, long_period}
 

@@ -1,4 +1,6 @@
 // The records of a TDH, of each of its three kinds. 01, "Records": TDH, interval; the Rust's status_word/tdh.rs.
+#![tactic(auto)]
+
 ghost use Rattle.std.specs.Prelude.{◌≡◌, if◌then◌else◌, nat_lt};
 ghost use Rattle.records.specs.Records.{padded};
 ghost use Rattle.packet.specs.Settings.{counts_orbits};
