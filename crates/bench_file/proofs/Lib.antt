@@ -2,9 +2,3 @@ pub mod Checking
 pub mod Finding
 pub mod Reading
 pub mod Unique
-pub mod Held
-pub mod Asking
-pub mod Moving
-pub mod Made
-pub mod Passing
-pub mod Placed

@@ -1,5 +1,7 @@
 // The bench file: whether bytes are one, and a reader that gives its packets and words in order.
 // Document 01, "Bench file", and the refusals 6, 7, 5, 3 of a file.
+#![tactic(auto)]
+
 ghost use Rattle.std.specs.Prelude.{◌≡◌, ◌+◌, ◌<◌, ◌≤◌, ◌^◌, length};
 ghost use Rattle.bench_file.specs.File.{header_bytes, packet_bytes, packet_place, packet_of, words_before, misfit, refusal_by, packet_refusal};
 ghost use Rattle.bench_file.specs.File.{first_refusal, check_of};
@@ -18,7 +20,7 @@ pub const HEADER_BYTES: usize = 16;
 pub const PACKET_BYTES: usize = 24;
 
 // A file and a place in it: the next packet, and the next word of the whole file, both from 0.
-#[derive(Drop)]
+#[derive(Clone, Copy)]
 pub struct FileReader<'a> {
     pub bytes: &'a [u8],
     pub packet: usize,
@@ -26,7 +28,7 @@ pub struct FileReader<'a> {
 }
 
 // What comes next: a packet and how many words it has, a word of ten bytes at a place of the file, or the end.
-#[derive(Drop)]
+#[derive(Clone, Copy)]
 pub enum Found {
     Packet { packet: Packet, words: u16 },
     Word { at: usize },
@@ -50,6 +52,7 @@ fn load_packet(file: &[u8], at: usize) -> Packet
 }
 
 // Refusal 6: the length and the offsets are not those of a file.
+#[tactic(auto, unfolding(crate::specs::File::misfit))]
 fn is_misfit(file: &[u8]) -> bool
     ensures { result ≡ misfit file.now }
 {
@@ -68,6 +71,7 @@ fn is_misfit(file: &[u8]) -> bool
 }
 
 // The sum of the word counts of the first packets.
+#[tactic(auto, using(crate::proofs::Checking::one_more), unfolding(crate::specs::File::words_before))]
 fn sum_counts(file: &[u8], packets: usize) -> u64
     requires packets_in_bounds { packet_place packets ≤ length file.now }
     requires packets_bound { packets ≤ 60000 }
@@ -134,6 +138,7 @@ pub fn check(file: &[u8]) -> u8
 }
 
 // A number of the header; in fewer bytes than a header has, 0.
+#[tactic(auto, unfolding(crate::specs::Reader::header_number))]
 fn header_number(file: &[u8], at: usize) -> u64
     requires { at + 4 ≤ header_bytes }
     ensures value { result ≡ header_number file.now at }
@@ -189,6 +194,7 @@ fn has_word(file: &[u8], word: usize) -> bool
 }
 
 // A packet of the file by its number, with its word count; the end where there is none.
+#[tactic(auto, unfolding(crate::specs::Reader::packet_found))]
 pub fn packet_at(file: &[u8], packet: usize) -> Found
     ensures { NextPacketPost file.now packet result }
 {
@@ -204,6 +210,7 @@ pub fn packet_at(file: &[u8], packet: usize) -> Found
 }
 
 // A word of the file by its number in the whole file; the end where there is none.
+#[tactic(auto, unfolding(crate::specs::Reader::word_found))]
 pub fn word_at(file: &[u8], word: usize) -> Found
     ensures { NextWordPost file.now word result }
 {
@@ -218,6 +225,7 @@ pub fn word_at(file: &[u8], word: usize) -> Found
 }
 
 // The cursor past a packet; where there is none it stays.
+#[tactic(auto, unfolding(crate::specs::Reader::past_packet))]
 fn past_packet(file: &[u8], packet: usize) -> usize
     ensures { result ≡ past_packet file.now packet }
 {
@@ -229,6 +237,7 @@ fn past_packet(file: &[u8], packet: usize) -> usize
 }
 
 // The cursor past a word; where there is none it stays.
+#[tactic(auto, unfolding(crate::specs::Reader::past_word))]
 fn past_word(file: &[u8], word: usize) -> usize
     ensures { result ≡ past_word file.now word }
 {

@@ -17,7 +17,8 @@ use Rattle.writer.specs.Write.{bytes_of}
 use Rattle.writer.proofs.Bytes.{bytes_long, number_bytes}
 use Rattle.packet.specs.declared.Packet.{Packet}
 use Rattle.packet.specs.Packet.{in_range, max_words}
-use Rattle.bench_file.specs.File.{header_bytes, most_bytes, packets, words, packet_offset, word_offset, packet_of, count_of, packet_place, count_at, word_place, bytes_at}
+use Rattle.bench_file.specs.File.{header_bytes, most_bytes, packets, words, packet_offset, word_offset, packet_of}
+use Rattle.bench_file.specs.File.{count_of, packet_place, count_at, word_place, bytes_at}
 use Rattle.bench_file.specs.File.{words_before, misfit, refusal_by, packet_refusal, first_refusal, check_of}
 use Rattle.bench_file.specs.Items.{word_items, packet_items, items}
 use Rattle.bench_writer.specs.Content.{Entry, packet, word, packets_in, words_in, leading, packet_as, table, bodies, header, file_of, size_of}

@@ -1,5 +1,7 @@
 // A bench file from packets and words, one after the other, in a lent buffer of 60,000 bytes. Document 01, "Bench file".
 // Behind 16 bytes for the header stand the packets, then the words. A packet moves the words on by its 24 bytes; the header is put last.
+#![tactic(auto)]
+
 ghost use Rattle.std.specs.Prelude.{◌≡◌, ◌++◌, ◌+◌, ◌-◌, ◌≤◌, length, take, drop};
 ghost use Rattle.words.specs.Word.{word_bytes};
 ghost use Rattle.writer.specs.Write.{bytes_of};
@@ -12,7 +14,7 @@ use packet::{MAX_WORDS, REFUSED_FILE, REFUSED_FULL, REFUSED_NO_PACKET, REFUSED_P
 use words::Word;
 
 // A packet's fields as they are given: numbers of any size.
-#[derive(Drop)]
+#[derive(Clone, Copy)]
 pub struct PacketFields {
     pub position: u64,
     pub orbit: u64,
@@ -24,7 +26,7 @@ pub struct PacketFields {
 }
 
 // How many packets and words a buffer holds, and how many words of them are the last packet's.
-#[derive(Drop)]
+#[derive(Clone, Copy)]
 pub struct Draft {
     pub packets: usize,
     pub words: usize,
@@ -32,7 +34,7 @@ pub struct Draft {
 }
 
 // The refusal, or 0, and the draft after it.
-#[derive(Drop)]
+#[derive(Clone, Copy)]
 pub struct Added {
     pub refusal: u8,
     pub draft: Draft,
@@ -149,6 +151,7 @@ pub fn add_packet(buffer: &mut [u8], draft: Draft, fields: PacketFields) -> Adde
 }
 
 // One word more, or refusal 2, 3 or 6.
+#[tactic(auto, using(crate::proofs::Adding::word_taken, crate::proofs::Adding::taken), unfolding(crate::specs::Draft::word_in))]
 pub fn add_word(buffer: &mut [u8], draft: Draft, word: [u8; 10]) -> Added
     requires { GoodDraft buffer.old draft }
     ensures { AddWordPost draft word buffer.old result buffer.new }
@@ -178,6 +181,7 @@ pub fn add_word(buffer: &mut [u8], draft: Draft, word: [u8; 10]) -> Added
 }
 
 // The header, and the length of the file: it stands at the front of the buffer.
+#[tactic(auto, using(crate::proofs::Putting::header_put))]
 pub fn finish(buffer: &mut [u8], draft: Draft) -> usize
     requires { GoodDraft buffer.old draft }
     ensures { FinishPost draft buffer.old result buffer.new }
