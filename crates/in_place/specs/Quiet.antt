@@ -1,6 +1,7 @@
 -- Quiet data words: they give no record, and their id alone tells it. It is a data id whose lane is active, or any data id without running checks.
 -- Assumes nothing.
-use Rattle.std.specs.Prelude.{ℕ, ◌+◌, ◌-◌, ◌*◌, ◌/◌, ◌%◌, ◌≤◌, ◌<◌, ◌^◌, ◌≡◌, Bool, true, false, cond, not, ◌&&◌, ◌||◌, List, leb, ltb, eqb, length, get_or, set}
+use Rattle.std.specs.Prelude.{ℕ, ◌+◌, ◌-◌, ◌*◌, ◌/◌, ◌%◌, ◌≤◌, ◌<◌, ◌^◌, ◌≡◌, leb, ltb, eqb}
+use Rattle.std.specs.Prelude.{Bool, true, false, cond, not, ◌&&◌, ◌||◌, List, length, get_or, set}
 use Rattle.words.specs.Word.{word_bytes}
 use Rattle.words.specs.Lanes.{is_lane_active}
 use Rattle.data_ids.specs.DataIds.{is_data_id, lane_of}

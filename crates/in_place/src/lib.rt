@@ -1,5 +1,7 @@
 // The calls on the numbers of a tracker themselves, in place, for a link that gives a word each 25 ns: what is read is read where it stands, and a word
 // stores only what its kind changes. Each call is proved equal to the same definition as the call on a tracker by value, which cdp_running and payload have.
+#![tactic(auto)]
+
 ghost use Rattle.std.specs.Prelude.{◌≡◌, true, ◌/◌, ◌<◌, length};
 ghost use Rattle.words.specs.Word.{word_bytes};
 ghost use Rattle.packet.specs.Packet.{max_words};
@@ -26,7 +28,7 @@ use tracker_array::{place, read, states};
 use words::Word;
 
 // What a payload call tells. Refusal 0: all words were taken.
-#[derive(Drop)]
+#[derive(Clone, Copy)]
 pub struct PayloadTold {
     pub words: u64,
     pub records: u64,
@@ -104,6 +106,7 @@ fn taken_word(a: &mut [u64], bytes: &[u8], out: &mut [u64]) -> Told
 }
 
 // One word: its records stand at the front of out, whose rest stays. A refusal leaves both.
+#[tactic(auto, using(cdp_running::proofs::Calls::short_is, records::proofs::Given::flat_none))]
 pub fn word(a: &mut [u64], bytes: &[u8], out: &mut [u64]) -> Told
     requires { GoodArray a.old }
     ensures { WordInPlace a.old bytes.now out.old result a.new out.new }

@@ -1,4 +1,4 @@
-// The records of a word by its kind, from the numbers themselves. Which rows a kind has is said in cdp_running (`rowsAs`); its code, `rows_of`, is the form on
+// The records of a word by its kind, from the numbers themselves. Which rows a kind has is said in cdp_running (`rows_as`); its code, `rows_of`, is the form on
 // a tracker by value, to be read. Here it is asked first whether there is any record, since most words give none.
 ghost use Rattle.std.specs.Prelude.{◌≡◌, true};
 ghost use Rattle.payload_fsm.specs.Step.{is_three};

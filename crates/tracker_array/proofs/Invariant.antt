@@ -23,7 +23,8 @@ use Rattle.stored.specs.Kept.{GoodIhw, GoodTdh, GoodInternal, GoodCdw, GoodFrame
 use Rattle.cdp_running.specs.declared.Tracker.{Tracker}
 use Rattle.cdp_running.specs.Tracker.{Good}
 use Rattle.tracker_array.specs.Array.{Sized}
-use Rattle.tracker_array.specs.Read.{settings_good, ihw_good, tdh_good, internal_good, cdw_good, frame_good, packets_good, packet_blank, in_start, blank, is_good}
+use Rattle.tracker_array.specs.Read.{settings_good, ihw_good, tdh_good, internal_good, cdw_good, frame_good}
+use Rattle.tracker_array.specs.Read.{packets_good, packet_blank, in_start, blank, is_good}
 use Rattle.tracker_array.proofs.State.{starts}
 
 -- Each part: its test, and what holds of it.

@@ -1,4 +1,6 @@
 // A tracker as 48 numbers, for callers who own its memory: which numbers are one, what its parts are, and writing one.
+#![tactic(auto)]
+
 ghost use Rattle.std.specs.Prelude.{◌≡◌};
 ghost use Rattle.tracker_array.specs.Array.{written_to};
 ghost use Rattle.tracker_array.specs.Read.{is_tracker};
