@@ -77,9 +77,9 @@ module _ (a : List ℕ) (s : Asked) where
 -- Whether numbers are a tracker, as the code asks it: r is its answer.
 module _ (a : List ℕ) {r : Bool} (asked : r ≡ is_tracker a) where
   -- Where there is no tracker, 100, and all stays.
-  module _ (no : not r ≡ true) where
+  module _ (no : r ≡ false) where
     none : {A : Type 0} {x otherwise : A} {call : Tracker → A} → x ≡ otherwise → On a x otherwise call
-    none p = record { is = λ t i. absurd (no_tracker_lem a (sym asked ∙ not-true r no) t i); none = λ h. p }
+    none p = record { is = λ t i. absurd (no_tracker_lem a (sym asked ∙ no) t i); none = λ h. p }
 
     pub packet_none : {p : Packet} → PacketOn a p no_tracker a
     packet_none = record { answer = none refl; tracker = none refl }
@@ -96,9 +96,9 @@ module _ (a : List ℕ) {r : Bool} (asked : r ≡ is_tracker a) where
     payload_none = record { answer = none refl; tracker = none refl; buffer_is = none refl }
 
   -- Where there is one, what the call on its numbers gives.
-  module _ (yes : not r ≡ false) where
+  module _ (yes : r ≡ true) where
     one : is_tracker a ≡ true
-    one = sym asked ∙ not-false r yes
+    one = sym asked ∙ yes
 
     pub is_good : GoodArray a
     is_good = good_array a one

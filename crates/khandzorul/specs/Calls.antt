@@ -75,6 +75,7 @@ pub record WordOn (a bytes buffer : List ℕ) (r : WordNumbers) (after buffer-af
 
 -- khz_payload
 pub record PayloadOn (a bytes buffer : List ℕ) (r : PayloadNumbers) (after buffer-after : List ℕ) : Type 0 where
-  pub answer : On a r (record { refusal = no_tracker; words = 0; records = 0 }) (λ t. paid_numbers (Payload.payload_answer (payload_call t bytes (room buffer))))
+  pub answer : On a r (record { refusal = no_tracker; words = 0; records = 0 })
+      (λ t. paid_numbers (Payload.payload_answer (payload_call t bytes (room buffer))))
   pub tracker : On a after a (λ t. encode_of (payload_call t bytes (room buffer)).tracker)
   pub buffer_is : On a buffer-after buffer (λ t. over (flat (payload_call t bytes (room buffer)).records) buffer)

@@ -1,5 +1,7 @@
-// The C boundary: the exported functions of include/khandzorul.h, here the calls on a tracker. The caller owns all memory. None of them asks anything
-// of the caller: an array that is no tracker is answered by 100 and left as it was.
+// The C boundary: the functions of include/khandzorul.h, here the calls on a tracker; khandzorul_c exports them. The caller owns all memory. None of them asks
+// anything of the caller: an array that is no tracker is answered by 100 and left as it was.
+#![tactic(auto)]
+
 ghost use Rattle.std.specs.Prelude.{◌≡◌, true, cond, ◌≤◌};
 ghost use Rattle.bench_file.specs.File.{check_of};
 ghost use Rattle.tracker_array.specs.Array.{is_on};
@@ -24,7 +26,7 @@ const MAX_PERIOD: u64 = 4_294_967_295;
 
 // khz_word_answer
 #[repr(C)]
-#[derive(Drop)]
+#[derive(Clone, Copy)]
 pub struct WordNumbers {
     pub refusal: u64,
     pub kind: u64,
@@ -38,7 +40,7 @@ pub struct WordNumbers {
 
 // khz_payload_answer
 #[repr(C)]
-#[derive(Drop)]
+#[derive(Clone, Copy)]
 pub struct PayloadNumbers {
     pub refusal: u64,
     pub words: u64,
@@ -64,8 +66,7 @@ fn period_of(periodic: u64, period: u64) -> u32
 }
 
 // Makes a tracker, whatever stood in the array.
-#[unsafe(no_mangle)]
-pub extern "C" fn khz_start(
+pub fn khz_start(
     tracker: &mut [u64],
     running: u64,
     frames: u64,
@@ -94,8 +95,7 @@ pub extern "C" fn khz_start(
 }
 
 // Begins a packet. Its ranges are asked of the numbers as they come in.
-#[unsafe(no_mangle)]
-pub extern "C" fn khz_packet(
+pub fn khz_packet(
     tracker: &mut [u64],
     position: u64,
     orbit: u64,
@@ -115,8 +115,7 @@ pub extern "C" fn khz_packet(
 }
 
 // One word.
-#[unsafe(no_mangle)]
-pub extern "C" fn khz_word(tracker: &mut [u64], word: &[u8], records: &mut [u64]) -> WordNumbers
+pub fn khz_word(tracker: &mut [u64], word: &[u8], records: &mut [u64]) -> WordNumbers
     ensures { WordOn tracker.old word.now records.old result tracker.new records.new }
 {
     if !tracker_array::is_tracker(tracker) {
@@ -126,12 +125,7 @@ pub extern "C" fn khz_word(tracker: &mut [u64], word: &[u8], records: &mut [u64]
 }
 
 // The words of a payload, up to a refusal.
-#[unsafe(no_mangle)]
-pub extern "C" fn khz_payload(
-    tracker: &mut [u64],
-    payload: &[u8],
-    records: &mut [u64],
-) -> PayloadNumbers
+pub fn khz_payload(tracker: &mut [u64], payload: &[u8], records: &mut [u64]) -> PayloadNumbers
     ensures { PayloadOn tracker.old payload.now records.old result tracker.new records.new }
 {
     if !tracker_array::is_tracker(tracker) {
@@ -150,8 +144,7 @@ pub extern "C" fn khz_payload(
 }
 
 // Back to the start state.
-#[unsafe(no_mangle)]
-pub extern "C" fn khz_reset(tracker: &mut [u64]) -> u64
+pub fn khz_reset(tracker: &mut [u64]) -> u64
     ensures { ResetOn tracker.old result tracker.new }
 {
     if !tracker_array::is_tracker(tracker) {
@@ -162,8 +155,7 @@ pub extern "C" fn khz_reset(tracker: &mut [u64]) -> u64
 }
 
 // Whether this is a bench file.
-#[unsafe(no_mangle)]
-pub extern "C" fn khz_check_file(file: &[u8]) -> u64
+pub fn khz_check_file(file: &[u8]) -> u64
     ensures { result ≡ check_of file.now }
 {
     bench_file::check(file) as u64

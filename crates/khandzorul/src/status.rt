@@ -7,7 +7,7 @@ use words::{FromBuf, Word};
 
 // khz_status_answer
 #[repr(C)]
-#[derive(Drop)]
+#[derive(Clone, Copy)]
 pub struct StatusNumbers {
     pub refusal: u64,
     pub status: u64,
@@ -25,8 +25,7 @@ fn lane_status(word: Word, lane: u64) -> u64
 }
 
 // The status of a TDT or DDW0: that of its worst lane.
-#[unsafe(no_mangle)]
-pub extern "C" fn khz_worst_lane(word: &[u8]) -> StatusNumbers
+pub fn khz_worst_lane(word: &[u8]) -> StatusNumbers
     ensures { result ≡ status_of worst_lane word.now }
 {
     match Word::from_buf(word) {
@@ -42,8 +41,7 @@ pub extern "C" fn khz_worst_lane(word: &[u8]) -> StatusNumbers
 }
 
 // The status of one lane of a TDT or DDW0.
-#[unsafe(no_mangle)]
-pub extern "C" fn khz_lane_status(word: &[u8], lane: u64) -> StatusNumbers
+pub fn khz_lane_status(word: &[u8], lane: u64) -> StatusNumbers
     ensures { result ≡ status_of (lane_status lane) word.now }
 {
     match Word::from_buf(word) {

@@ -4,8 +4,7 @@ ghost use Rattle.writer.specs.declared.Fields.TheVariants as F;
 
 use writer::Fields;
 
-#[unsafe(no_mangle)]
-pub extern "C" fn khz_write_ihw(active_lanes: u64, word: &mut [u8]) -> u64
+pub fn khz_write_ihw(active_lanes: u64, word: &mut [u8]) -> u64
     ensures { Writes (F.Ihw active_lanes) word.old result word.new }
 {
     writer::write(
@@ -16,8 +15,7 @@ pub extern "C" fn khz_write_ihw(active_lanes: u64, word: &mut [u8]) -> u64
     ) as u64
 }
 
-#[unsafe(no_mangle)]
-pub extern "C" fn khz_write_tdh(
+pub fn khz_write_tdh(
     trigger_type: u64,
     internal: u64,
     no_data: u64,
@@ -41,8 +39,7 @@ pub extern "C" fn khz_write_tdh(
     ) as u64
 }
 
-#[unsafe(no_mangle)]
-pub extern "C" fn khz_write_tdt(
+pub fn khz_write_tdt(
     lane_status: u64,
     timeout_to_start: u64,
     timeout_start_stop: u64,
@@ -70,8 +67,7 @@ pub extern "C" fn khz_write_tdt(
     ) as u64
 }
 
-#[unsafe(no_mangle)]
-pub extern "C" fn khz_write_ddw0(
+pub fn khz_write_ddw0(
     lane_status: u64,
     lane_starts_violation: u64,
     transmission_timeout: u64,
@@ -91,8 +87,7 @@ pub extern "C" fn khz_write_ddw0(
     ) as u64
 }
 
-#[unsafe(no_mangle)]
-pub extern "C" fn khz_write_cdw(user_fields: u64, index: u64, word: &mut [u8]) -> u64
+pub fn khz_write_cdw(user_fields: u64, index: u64, word: &mut [u8]) -> u64
     ensures { Writes (F.Cdw user_fields index) word.old result word.new }
 {
     writer::write(
@@ -104,8 +99,7 @@ pub extern "C" fn khz_write_cdw(user_fields: u64, index: u64, word: &mut [u8]) -
     ) as u64
 }
 
-#[unsafe(no_mangle)]
-pub extern "C" fn khz_write_data(id: u64, bytes: &[u8], word: &mut [u8]) -> u64
+pub fn khz_write_data(id: u64, bytes: &[u8], word: &mut [u8]) -> u64
     ensures { WritesData id bytes.now word.old result word.new }
 {
     writer::write_data(id, bytes, word) as u64
