@@ -1,4 +1,6 @@
 // Texts in ASCII at the front of a lent buffer: bytes, numbers in decimal, lines. A text that has no room is not begun.
+#![tactic(auto)]
+
 ghost use Rattle.std.specs.Prelude.{◌∷◌, ◌+◌, ◌*◌, ◌≤◌, length};
 ghost use Rattle.ascii.specs.Text.{space, decimal, numeral, named, spaced, line, most_number, most_named, most_line, in_room, Puts};
 

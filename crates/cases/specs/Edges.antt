@@ -1,6 +1,6 @@
 -- 01, "At the edges": the rows marked P, as one table.
 -- Assumes nothing.
-use Rattle.std.specs.Prelude.{ℕ, ◌+◌, ◌≡◌, Bool, true, false, List, [], ◌∷◌, ◌++◌, length}
+use Rattle.std.specs.Prelude.{ℕ, ◌≡◌, Bool, true, false, List, [], ◌∷◌, ◌++◌, length}
 use Rattle.words.specs.declared.Word.{Word}
 use Rattle.words.specs.Tdh.{no_data, trigger_bc, internal_trigger}
 use Rattle.words.specs.LaneStatus.{lane_status, worst_lane}

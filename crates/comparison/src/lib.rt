@@ -1,4 +1,6 @@
 // Two bench files compared, place by place, and what is printed of it, step by step into a lent buffer. Document 02, ticket 5.
+#![tactic(auto)]
+
 ghost use Rattle.std.specs.Prelude.{◌≡◌, true, ◌+◌, ◌<◌, ◌≤◌, ◌^◌, min, length};
 ghost use Rattle.words.specs.Word.{word_bytes};
 ghost use Rattle.words.specs.LittleEndian.{number_at};
@@ -26,7 +28,7 @@ pub const MOST_PRINTED: usize = 4 + ascii::MOST_NUMBER * 5 + 1;
 const FIELDS: usize = 7;
 
 // Where both files are looked at: the header's counts, a packet's count, a field of a packet, a byte of a word of a packet.
-#[derive(Drop)]
+#[derive(Clone, Copy)]
 pub enum Where {
     Packets,
     Words,
@@ -36,7 +38,7 @@ pub enum Where {
 }
 
 // What is compared: the number of the first file and that of the second, at a place of both.
-#[derive(Drop)]
+#[derive(Clone, Copy)]
 pub struct Place {
     pub at: Where,
     pub first: u64,
@@ -45,7 +47,7 @@ pub struct Place {
 
 // What is looked at next: the packet counts, the word counts, a packet's count, whether there is one packet more, a field of it, a byte of its words;
 // or how many differences there are, the refusal of a file, or nothing more.
-#[derive(Drop)]
+#[derive(Clone, Copy)]
 pub enum Stage {
     Packets,
     Words,
@@ -59,7 +61,7 @@ pub enum Stage {
 }
 
 // A listing on the way: the packet, the field or byte of it, the words of the packets before it in either file, and the differences so far.
-#[derive(Drop)]
+#[derive(Clone, Copy)]
 pub struct Listing {
     pub stage: Stage,
     pub packet: usize,
@@ -70,13 +72,14 @@ pub struct Listing {
 }
 
 // The listing after a step, and how many bytes of a buffer the step's line has.
-#[derive(Drop)]
+#[derive(Clone, Copy)]
 pub struct Filled {
     pub listing: Listing,
     pub n: usize,
 }
 
 // The refusal of a file: 6 where it is too long to be compared, else as for one file; or 0.
+#[tactic(auto, unfolding(crate::specs::Compare::refusal_of))]
 pub fn check(file: &[u8]) -> u8
     ensures { result ≡ refusal_of file.now }
 {
@@ -130,6 +133,7 @@ fn smaller(x: u64, y: u64) -> u64
 }
 
 // How many packets both files have.
+#[tactic(auto, using(crate::proofs::Looking::counted_there))]
 fn common_packets(a: &[u8], b: &[u8]) -> usize
     requires header_bytes_in_bounds { header_bytes ≤ length a.now }
     requires header_bytes_in_bounds_2 { header_bytes ≤ length b.now }
@@ -185,6 +189,7 @@ fn field_at(file: &[u8], packet: usize, field: usize) -> u64
 }
 
 // A byte of a word that the file has, the word by its number in the whole file.
+#[tactic(auto, using(bench_file::proofs::Finding::word_is, words::proofs::LittleEndian::byte))]
 fn byte_at(file: &[u8], word: usize, byte: usize) -> u8
     requires word_value { has_word file.now word ≡ true }
     requires byte_lt_word_bytes { byte < word_bytes }
@@ -235,6 +240,7 @@ fn told(next: Listing, place: Place, out: &mut [u8]) -> Filled
     }
 }
 
+#[tactic(auto, using(crate::proofs::Looking::counted_there, crate::proofs::Looking::header, crate::proofs::Looking::packets_looked))]
 fn packets_step(l: Listing, a: &[u8], b: &[u8], out: &mut [u8]) -> Filled
     requires both { Both a.now b.now }
     requires count_bound { l.count < 2 ^ 32 }
@@ -260,6 +266,7 @@ fn packets_step(l: Listing, a: &[u8], b: &[u8], out: &mut [u8]) -> Filled
     )
 }
 
+#[tactic(auto, using(crate::proofs::Looking::counted_there, crate::proofs::Looking::header, crate::proofs::Looking::words_looked))]
 fn words_step(l: Listing, a: &[u8], b: &[u8], out: &mut [u8]) -> Filled
     requires both { Both a.now b.now }
     requires count_bound { l.count < 2 ^ 32 }
@@ -285,6 +292,7 @@ fn words_step(l: Listing, a: &[u8], b: &[u8], out: &mut [u8]) -> Filled
     )
 }
 
+#[tactic(auto, using(crate::proofs::Looking::header, crate::proofs::Looking::both_have))]
 fn counts_step(l: Listing, a: &[u8], b: &[u8], out: &mut [u8]) -> Filled
     requires at_count { AtCount a.now b.now l }
     requires count_bound { l.count < 2 ^ 32 }
@@ -326,6 +334,7 @@ fn counts_step(l: Listing, a: &[u8], b: &[u8], out: &mut [u8]) -> Filled
     }
 }
 
+#[tactic(auto, using(crate::proofs::Looking::header))]
 fn packet_step(l: Listing, a: &[u8], b: &[u8]) -> Listing
     requires { AtPacket a.now b.now l }
     ensures { result ≡ (packet_step a.now b.now l).next }
@@ -351,6 +360,7 @@ fn packet_step(l: Listing, a: &[u8], b: &[u8]) -> Listing
     }
 }
 
+#[tactic(auto, using(crate::proofs::Looking::both_have))]
 fn fields_step(l: Listing, a: &[u8], b: &[u8], out: &mut [u8]) -> Filled
     requires at_field { AtField a.now b.now l }
     requires count_bound { l.count < 2 ^ 32 }
@@ -393,6 +403,7 @@ fn fields_step(l: Listing, a: &[u8], b: &[u8], out: &mut [u8]) -> Filled
     }
 }
 
+#[tactic(auto, using(crate::proofs::Looking::few, crate::proofs::Looking::both_have, crate::proofs::Looking::both_few, crate::proofs::Looking::both_have_word))]
 fn bytes_step(l: Listing, a: &[u8], b: &[u8], out: &mut [u8]) -> Filled
     requires at_byte { AtByte a.now b.now l }
     requires count_bound { l.count < 2 ^ 32 }

@@ -40,7 +40,8 @@ word_taken t packets left bytes h ten =
     let have = h.accepted (omega arith) in
     let room = h.room in
     let e : word_call t bytes most_records ≡ taken_of t (word_of bytes) =
-    admitted_taken t bytes most_records (record { ten = ten; accepted = have; low = omega arith; fits = le-ltb most_records _ (few_records t (word_of bytes)) }) in
+    admitted_taken t bytes most_records
+    (record { ten = ten; accepted = have; low = omega arith; fits = le-ltb most_records _ (few_records t (word_of bytes)) }) in
     let next : (word_answer t (word_call t bytes most_records)).tracker ≡ after_word t (taken_as t (word_of bytes))
     (word_of bytes) = ap (λ (o : Outcome). (word_answer t o).tracker) e in
     (e, subst (λ (u : Tracker). Takes u packets left) (sym next) (record { counted = h.counted; accepted = λ _. have; room = omega arith }))

@@ -15,7 +15,7 @@ use Rattle.records.proofs.Given.{length_flat}
 use Rattle.words.proofs.Buffer.{over_fits}
 use Rattle.cdp_running.specs.declared.Tracker.{Tracker}
 use Rattle.cdp_running.specs.declared.WordAnswer.{WordAnswer}
-use Rattle.cdp_running.specs.Tracker.{Good, start_of}
+use Rattle.cdp_running.specs.Tracker.{start_of}
 use Rattle.cdp_running.proofs.Good as Good
 use Rattle.cdp_running.specs.Answer.{numbers_of}
 use Rattle.cdp_running.specs.Word.{Outcome, taken, refused, word_call, word_answer, records_in, WordPost}

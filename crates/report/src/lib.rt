@@ -1,4 +1,6 @@
 // What benchcheck prints of a bench file, step by step into a lent buffer. Document 01, "Bench file".
+#![tactic(auto)]
+
 ghost use Rattle.std.specs.Prelude.{◌≡◌, ◌≤◌, length};
 ghost use Rattle.cdp_running.specs.Tracker.{Good};
 ghost use Rattle.bench_file.specs.Reader.{next_found};
@@ -21,7 +23,7 @@ pub const MOST_PRINTED: usize = records::MOST_RECORDS * records::RECORD_WIDTH * 
 pub const PERIOD: u32 = 198;
 
 // What is printed next: the heading, the lines of a packet or word or the number of all records, the refusal, or nothing more.
-#[derive(Drop)]
+#[derive(Clone, Copy)]
 pub enum Stage {
     Heading,
     Items,
@@ -30,7 +32,7 @@ pub enum Stage {
 }
 
 // A report on the way: the tracker, the place of the reader in the file and the words that are left of the packet at hand, and the records so far.
-#[derive(Drop)]
+#[derive(Clone, Copy)]
 pub struct Report {
     pub stage: Stage,
     pub tracker: Tracker,
@@ -41,7 +43,7 @@ pub struct Report {
 }
 
 // The report after a text, and how many bytes of a buffer the text has.
-#[derive(Drop)]
+#[derive(Clone, Copy)]
 pub struct Filled {
     pub report: Report,
     pub n: usize,
@@ -100,7 +102,7 @@ fn packet_step(r: Report, file: &[u8], packet: Packet, words: u16) -> Report
     }
 }
 
-// The word at a place of the file: the lines of its records. (No word of a file that was not refused is refused: proofs/Refused.antt, `never-refused`.)
+// The word at a place of the file: the lines of its records. (No word of a file that was not refused is refused: proofs/Refused.antt, `never_refused`.)
 fn word_step(r: Report, file: &[u8], at: usize, out: &mut [u8]) -> Filled
     requires good { Good r.tracker }
     requires good_word { GoodWord file.now r at }

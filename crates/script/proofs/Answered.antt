@@ -252,7 +252,8 @@ by_byte b text s n es line r small rest false e =
     by_more : More (fed_byte s b) n es (line ++ (b ∷ [])) → Final (fed (fed_byte s b) text) (outcome_from n es (in_front (line ++ (b ∷ [])) (lines_of text)))
     by_more (goes_on next) = rest (fed_byte s b) n es (line ++ (b ∷ [])) next (omega (arith, small))
     by_more (too_long long refusal number) =
-        subst (Final (fed (fed_byte s b) text)) (sym (long_outcome n es (line ++ (b ∷ [])) (lines_of text) long)) (stopped (fed_byte s b) text refl refusal number)
+        subst (Final (fed (fed_byte s b) text)) (sym (long_outcome n es (line ++ (b ∷ [])) (lines_of text) long))
+        (stopped (fed_byte s b) text refl refusal number)
 
 final : (text : List ℕ) (s : State) (n : ℕ) (es : List Entry) (line : List ℕ) → Reads s n es line → n + length text < last_line
     → Final (fed s text) (outcome_from n es (in_front line (lines_of text)))
@@ -339,7 +340,8 @@ fine text short =
     let short' : suc (length (whole (text ∷ []))) < last_line = subst (λ (t : List ℕ). suc (length t) < last_line) (sym e) short in
     subst (λ (t : List ℕ). IsFine (outcome_of t)) e
     (final_fine
-    (ends_so (replicate most_bytes 0) (replicate most_line 0) (text ∷ []) (length-replicate {A = ℕ} most_bytes 0) (length-replicate {A = ℕ} most_line 0) short'))
+    (ends_so (replicate most_bytes 0) (replicate most_line 0) (text ∷ []) (length-replicate {A = ℕ} most_bytes 0)
+    (length-replicate {A = ℕ} most_line 0) short'))
 
 -- For a caller that has read a text in pieces.
 pub is_answer : {buffer₀ held₀ buffer held after : List ℕ} {r : Reading} {a : Answer} → length buffer₀ ≡ most_bytes → length held₀ ≡ most_line

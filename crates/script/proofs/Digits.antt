@@ -92,6 +92,20 @@ too_large base text is n i d h e low large r =
     ∙ sym (ap (read_as base n) (drop-cons text i 0 h))
     ∙ r.same
 
+-- What is to be read from a place on, where a byte is no digit, and where a number passes the last one with it.
+pub no_digit_at : (base n i : ℕ) (text : List ℕ) → i < length text → base ≤ digit_of (get_or text i 0) → read_as base n (drop i text) ≡ None
+no_digit_at base n i text h high =
+    ap (read_as base n) (drop-cons text i 0 h)
+    ∙ digit_read base text n i (digit_of (get_or text i 0)) refl (le-ltb (digit_of (get_or text i 0)) base high)
+
+pub too_large_at : (base n i : ℕ) (text : List ℕ) → IsBase base → i < length text → digit_of (get_or text i 0) < base
+    → 2 ^ 64 ≤ n * base + digit_of (get_or text i 0)
+    → read_as base n (drop i text) ≡ None
+too_large_at base n i text is h low large =
+    ap (read_as base n) (drop-cons text i 0 h)
+    ∙ digit_read base text n i (digit_of (get_or text i 0)) refl (lt-ltb (digit_of (get_or text i 0)) base low)
+    ∙ over base is (drop (suc i) text) (n * base + digit_of (get_or text i 0)) large
+
 -- The test before a digit is added tells whether the number passes the last one.
 pub fits : (base n d : ℕ) → IsBase base → n ≤ (2 ^ 64 - 1 - d) / base → d < base → n * base + d < 2 ^ 64
 fits base n d is h low =

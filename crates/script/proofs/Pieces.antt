@@ -1,6 +1,6 @@
 -- A text in pieces is the whole text; and one piece more.
 -- Assumes nothing.
-use Prim.Native.Nat.{ℕ, ◌+◌}
+use Prim.Native.Nat.{ℕ}
 use mathlib.Core.Path.{◌≡◌, refl, sym, ap, ◌∙◌}
 use mathlib.Core.List.{List, [], ◌∷◌, ◌++◌, append_assoc, append-nil}
 use Rattle.script.specs.Feeding.{State, fed_byte, fed, fed_all, whole}

@@ -1,5 +1,7 @@
 // A bench file from lines of text: the text comes in pieces of any length, and what it makes is left in a lent buffer.
 // docs/RULES.md, "The text form".
+#![tactic(auto)]
+
 ghost use Rattle.std.specs.Prelude.{◌≡◌, ◌≤◌, length};
 ghost use Rattle.ascii.specs.Text.{Puts};
 ghost use Rattle.bench_file.specs.File.{most_bytes};
@@ -33,7 +35,7 @@ const LAST_LINE: u64 = 0xFFFF_FFFF_FFFF_FFFF;
 
 // How far a text was read: the file so far, the number of the line at hand, from 1, how many bytes of it are held, whether its comment has begun, and the
 // refusal that ended it, or 0.
-#[derive(Drop)]
+#[derive(Clone, Copy)]
 pub struct Reading {
     pub draft: Draft,
     pub line: u64,
@@ -43,7 +45,7 @@ pub struct Reading {
 }
 
 // What stands at the front of the buffer: the file where the refusal is 0, else the line that says so.
-#[derive(Drop)]
+#[derive(Clone, Copy)]
 pub struct Answer {
     pub n: usize,
     pub refusal: u8,
@@ -122,6 +124,7 @@ fn refused(refusal: u8, r: Reading) -> Reading
 }
 
 // The line that is held ends.
+#[tactic(auto, unfolding(crate::specs::Feeding::ended))]
 fn end_line(buffer: &mut [u8], held: &[u8], r: Reading) -> Reading
     requires { GoodReading buffer.old held.now r }
     ensures { ReadPost (ended (state_of buffer.old held.now r)) result buffer.new held.now }
@@ -162,6 +165,7 @@ fn hold(held: &mut [u8], r: Reading, byte: u8) -> Reading
 }
 
 // One byte of the text.
+#[tactic(auto, unfolding(crate::specs::Feeding::fed_byte))]
 fn feed_byte(buffer: &mut [u8], held: &mut [u8], r: Reading, byte: u8) -> Reading
     requires { GoodReading buffer.old held.old r }
     ensures { ReadPost (fed_byte (state_of buffer.old held.old r) byte) result buffer.new held.new }

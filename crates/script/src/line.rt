@@ -10,7 +10,7 @@ use writer::WordKind;
 const MOST_NUMBERS: usize = 10;
 
 // What a line is: empty, not to be read, a packet, or a word of a kind.
-#[derive(Drop)]
+#[derive(Clone, Copy)]
 pub enum Kind {
     Nothing,
     Unreadable,
@@ -19,14 +19,14 @@ pub enum Kind {
 }
 
 // A line's kind and its numbers, with zeros behind them.
-#[derive(Drop)]
+#[derive(Clone, Copy)]
 pub struct Line {
     pub kind: Kind,
     pub n: [u64; 10],
 }
 
 // The numbers behind the first part of a line, or that they are none.
-#[derive(Drop)]
+#[derive(Clone, Copy)]
 struct Numbers {
     count: usize,
     bad: bool,
@@ -41,6 +41,7 @@ fn is_blank(byte: u8) -> bool
 }
 
 // The first place from `from` on whose byte is a blank, or is none; the end where there is no such place.
+#[tactic(auto, using(crate::proofs::Tokens::skip_on, crate::proofs::Tokens::alike))]
 fn skip(text: &[u8], from: usize, blanks: bool) -> usize
     requires { from ≤ length text.now }
     ensures { Skips blanks text.now from result }
@@ -109,6 +110,7 @@ fn read_numbers(text: &[u8], from: usize) -> Numbers
 }
 
 // Whether two texts are the same.
+#[tactic(auto, using(crate::proofs::Parsing::other_length, crate::proofs::Parsing::byte_other, crate::proofs::Parsing::byte_same, crate::proofs::Parsing::all_same))]
 fn same(text: &[u8], name: &[u8]) -> bool
     ensures { result ≡ same_bytes text.now name.now }
 {
@@ -182,6 +184,7 @@ fn without_numbers(kind: Kind) -> Line
 }
 
 // What a line says.
+#[tactic(auto, using(crate::proofs::Parsing::says_nothing, crate::proofs::Parsing::bad_number, crate::proofs::Parsing::other_count, crate::proofs::Parsing::says_it))]
 pub fn parse(text: &[u8]) -> Line
     ensures { result ≡ line_of text.now }
 {

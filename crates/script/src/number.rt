@@ -3,7 +3,7 @@ ghost use Rattle.std.specs.Prelude.{◌≡◌};
 ghost use Rattle.script.specs.Numbers.{digit_of, read_as, is_hexadecimal, number_of, IsBase};
 
 // What a part of a line is: a number below 2^64, or none.
-#[derive(Drop)]
+#[derive(Clone, Copy)]
 pub enum Value {
     Is(u64),
     None,
@@ -32,6 +32,7 @@ fn digit(byte: u8) -> u64
 }
 
 // The number of these digits. One that would pass the last number is none: it is seen before it is made.
+#[tactic(auto, using(crate::proofs::Digits::turn, crate::proofs::Digits::no_digit_at, crate::proofs::Digits::too_large_at, crate::proofs::Digits::ended))]
 fn digits(text: &[u8], base: u64) -> Value
     requires { IsBase base }
     ensures { result ≡ read_as base 0 text.now }
@@ -62,6 +63,7 @@ fn is_hexadecimal(text: &[u8]) -> bool
     (text[0] == 48) & (text[1] == 120)
 }
 
+#[tactic(auto, using(crate::proofs::Digits::hexadecimal, crate::proofs::Digits::empty, crate::proofs::Digits::decimal))]
 pub fn number(text: &[u8]) -> Value
     ensures { result ≡ number_of text.now }
 {
