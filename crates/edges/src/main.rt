@@ -1,12 +1,15 @@
 // The edges of document 01 that are no theorems: what benchcheck prints of the files c00, c01 .. of data/, and the calls that no file can make.
 // tests/make/edges.py makes the files and, from 01 by hand, what is to be printed; it says what each case is about.
+#![tactic(auto)]
+
 ghost use Rattle.cdp_running.specs.Tracker.{Good};
 
 use cdp_running::{PacketAnswer, Tracker};
-use libc::STDOUT_FILENO;
 use packet::{Packet, Rule, Settings};
 use records::RECORD_WIDTH;
 use report::Report;
+use std::fs;
+use std::rt::Files;
 
 // The most numbers that the records of a word have.
 const MOST_NUMBERS: usize = records::MOST_RECORDS * RECORD_WIDTH;
@@ -17,49 +20,54 @@ const TWO_RECORDS: usize = 2 * RECORD_WIDTH;
 // How many files there are.
 const FILES: u8 = 69;
 
-fn text(bytes: &[u8]) {
-    io::write_all(STDOUT_FILENO, bytes);
+// Their names.
+const NAMES: [&str; 69] = [
+    "c00", "c01", "c02", "c03", "c04", "c05", "c06", "c07", "c08", "c09", "c10", "c11", "c12",
+    "c13", "c14", "c15", "c16", "c17", "c18", "c19", "c20", "c21", "c22", "c23", "c24", "c25",
+    "c26", "c27", "c28", "c29", "c30", "c31", "c32", "c33", "c34", "c35", "c36", "c37", "c38",
+    "c39", "c40", "c41", "c42", "c43", "c44", "c45", "c46", "c47", "c48", "c49", "c50", "c51",
+    "c52", "c53", "c54", "c55", "c56", "c57", "c58", "c59", "c60", "c61", "c62", "c63", "c64",
+    "c65", "c66", "c67", "c68",
+];
+
+fn text(rt: &impl Print, bytes: &[u8]) {
+    let _ = rt.write_all(bytes);
 }
 
-fn number(n: u64) {
-    io::print_decimal(STDOUT_FILENO, n);
+fn number(rt: &impl Print, n: u64) {
+    let _ = rt.print(n);
 }
 
 // The report of a file.
-fn show(file: &[u8]) {
+fn show(rt: &impl Print, file: &[u8]) {
     let mut out = [0u8; report::MOST_PRINTED];
     let mut report = Report::start(file);
     while !report.finished() {
         let filled = report.step(file, &mut out);
         let n = filled.n;
-        text(&out[..n]);
+        text(rt, &out[..n]);
         let next = filled.report;
         report = next;
     }
 }
 
 // A file by its name.
-fn show_file(name: &[u8]) {
-    text(name);
-    text(b"\n");
-    let fd = os::open_read(name);
-    if fd < 0 {
-        text(b"missing\n");
+fn show_file(rt: &(impl Print + Files), name: &str) {
+    text(rt, name.as_bytes());
+    text(rt, b"\n");
+    let Ok(mut from) = fs::open(rt, name) else {
+        text(rt, b"missing\n");
         return;
-    }
+    };
     let mut file = [0u8; 60001];
-    let n = io::read_full(fd, &mut file);
-    libc::close(fd);
-    show(&file[..n]);
+    let n = input::read_all(&mut from, &mut file).n;
+    show(rt, &file[..n]);
 }
 
-fn show_files() {
-    let mut name = [b'c', b'0', b'0'];
+fn show_files(rt: &(impl Print + Files)) {
     let mut i: u8 = 0;
     while i < FILES {
-        name[1] = 48 + i / 10;
-        name[2] = 48 + i % 10;
-        show_file(&name);
+        show_file(rt, NAMES[i as usize]);
         i = i + 1;
     }
 }
@@ -94,7 +102,7 @@ fn packet_taken(running: bool, period: u32, page: u16) -> Tracker
 }
 
 // "4,096th word accepted, 4,097th refused 3": data words in one packet, up to a refusal.
-fn show_full() {
+fn show_full(rt: &impl Print) {
     let mut t = packet_taken(true, 198, 0);
     let mut out = [0u64; MOST_NUMBERS];
     let mut n: u64 = 0;
@@ -103,11 +111,11 @@ fn show_full() {
         let told = answer.told;
         let refused = told.refusal() as u64;
         if refused != 0 {
-            text(b"words ");
-            number(n);
-            text(b" refused ");
-            number(refused);
-            text(b"\n");
+            text(rt, b"words ");
+            number(rt, n);
+            text(rt, b" refused ");
+            number(rt, refused);
+            text(rt, b"\n");
             return;
         }
         let next = answer.tracker;
@@ -117,27 +125,27 @@ fn show_full() {
 }
 
 // "Counting a word refused with 4": an IHW with a reserved bit, first with no room, then with room for its record, which has five numbers.
-fn show_room() {
+fn show_room(rt: &impl Print) {
     let t = packet_taken(true, 198, 0);
     let mut small = [0u64; 4];
     let first = t.word(b"\0\0\0\x10\0\0\0\0\0\xE0", &mut small);
     let told = first.told;
-    text(b"refused ");
-    number(told.refusal() as u64);
+    text(rt, b"refused ");
+    number(rt, told.refusal() as u64);
     let after = first.tracker;
     let mut out = [0u64; 5];
     after.word(b"\0\0\0\x10\0\0\0\0\0\xE0", &mut out);
-    text(b" then ");
-    number(out[0]);
-    text(b" ");
-    number(out[1]);
-    text(b" ");
-    number(out[2]);
-    text(b" ");
-    number(out[3]);
-    text(b" ");
-    number(out[4]);
-    text(b"\n");
+    text(rt, b" then ");
+    number(rt, out[0]);
+    text(rt, b" ");
+    number(rt, out[1]);
+    text(rt, b" ");
+    number(rt, out[2]);
+    text(rt, b" ");
+    number(rt, out[3]);
+    text(rt, b" ");
+    number(rt, out[4]);
+    text(rt, b"\n");
 }
 
 // The found period of a record 45, which stands alone or behind a 440; else a number that is none.
@@ -162,7 +170,7 @@ fn tdh_taken(period: u32, page: u16) -> Tracker
 }
 
 // "For legal BCs a set period of 3564 always differs": after an IHW and a TDH with BC 0, TDHs at the distances 0, 1 .. 3563.
-fn show_period() {
+fn show_period(rt: &impl Print) {
     let mut t = tdh_taken(3564, 0);
     let mut bc: u64 = 0;
     let mut differ: u64 = 0;
@@ -184,11 +192,11 @@ fn show_period() {
         t = next;
         k = k + 1;
     }
-    text(b"differ ");
-    number(differ);
-    text(b" sum ");
-    number(sum);
-    text(b"\n");
+    text(rt, b"differ ");
+    number(rt, differ);
+    text(rt, b" sum ");
+    number(rt, sum);
+    text(rt, b"\n");
 }
 
 // The code of the first record that an IHW gives, or 0.
@@ -201,29 +209,29 @@ fn code_at_ihw(t: Tracker) -> u64
 }
 
 // "1121 in the start state for a page not 0, and 1122 in the three-way state for a page of 0": the start state is reached by a reset too.
-fn show_page(page: u16) {
+fn show_page(rt: &impl Print, page: u16) {
     let three = tdh_taken(198, page);
-    text(b"page ");
-    number(page as u64);
-    text(b" start ");
-    number(code_at_ihw(packet_taken(true, 198, page)));
-    text(b" three ");
-    number(code_at_ihw(three));
-    text(b" reset ");
-    number(code_at_ihw(three.reset()));
-    text(b"\n");
+    text(rt, b"page ");
+    number(rt, page as u64);
+    text(rt, b" start ");
+    number(rt, code_at_ihw(packet_taken(true, 198, page)));
+    text(rt, b" three ");
+    number(rt, code_at_ihw(three));
+    text(rt, b" reset ");
+    number(rt, code_at_ihw(three.reset()));
+    text(rt, b"\n");
 }
 
 // The code of a record, or nothing where none was written.
-fn show_code(code: u64) {
+fn show_code(rt: &impl Print, code: u64) {
     if code != 0 {
-        text(b" ");
-        number(code);
+        text(rt, b" ");
+        number(rt, code);
     }
 }
 
 // The codes of a word with an id in DATA_, behind an IHW with lanes 8 and 9.
-fn show_codes(running: bool, id: u8) {
+fn show_codes(rt: &impl Print, running: bool, id: u8) {
     let mut before = [0u64; MOST_NUMBERS];
     let begun = packet_taken(running, 198, 0).word(b"\0\x03\0\0\0\0\0\0\0\xE0", &mut before);
     let ready = begun.tracker.word(b"\0\x10\0\0\0\0\0\0\0\xE8", &mut before);
@@ -231,23 +239,23 @@ fn show_codes(running: bool, id: u8) {
     word[9] = id;
     let mut out = [0u64; MOST_NUMBERS];
     ready.tracker.word(&word, &mut out);
-    show_code(out[1]);
-    show_code(out[RECORD_WIDTH + 1]);
-    show_code(out[2 * RECORD_WIDTH + 1]);
-    show_code(out[3 * RECORD_WIDTH + 1]);
-    show_code(out[4 * RECORD_WIDTH + 1]);
-    show_code(out[5 * RECORD_WIDTH + 1]);
+    show_code(rt, out[1]);
+    show_code(rt, out[RECORD_WIDTH + 1]);
+    show_code(rt, out[2 * RECORD_WIDTH + 1]);
+    show_code(rt, out[3 * RECORD_WIDTH + 1]);
+    show_code(rt, out[4 * RECORD_WIDTH + 1]);
+    show_code(rt, out[5 * RECORD_WIDTH + 1]);
 }
 
 // What is said of a lane is said with running checks alone: the codes of an id without them and with them.
-fn show_lane(id: u8) {
-    text(b"id ");
-    number(id as u64);
-    text(b" off");
-    show_codes(false, id);
-    text(b" on");
-    show_codes(true, id);
-    text(b"\n");
+fn show_lane(rt: &impl Print, id: u8) {
+    text(rt, b"id ");
+    number(rt, id as u64);
+    text(rt, b" off");
+    show_codes(rt, false, id);
+    text(rt, b" on");
+    show_codes(rt, true, id);
+    text(rt, b"\n");
 }
 
 // Another packet of the same position. A BC above 4095 is refused.
@@ -276,25 +284,25 @@ fn packet_at_ihw(t: Tracker) -> u64
 }
 
 // "The count of packets accepted since the start": one that is refused does not count, and a reset keeps the count.
-fn show_packets() {
+fn show_packets(rt: &impl Print) {
     let first = packet_taken(true, 198, 0);
     let refused = next_packet(first, 4096);
     let second = next_packet(refused.tracker, 0);
     let reset = second.tracker.reset();
     let third = next_packet(reset, 0);
-    text(b"packet ");
-    number(packet_at_ihw(first));
-    text(b" refused ");
-    number(refused.refusal as u64);
-    text(b" still ");
-    number(packet_at_ihw(refused.tracker));
-    text(b" next ");
-    number(packet_at_ihw(second.tracker));
-    text(b" reset ");
-    number(packet_at_ihw(reset));
-    text(b" next ");
-    number(packet_at_ihw(third.tracker));
-    text(b"\n");
+    text(rt, b"packet ");
+    number(rt, packet_at_ihw(first));
+    text(rt, b" refused ");
+    number(rt, refused.refusal as u64);
+    text(rt, b" still ");
+    number(rt, packet_at_ihw(refused.tracker));
+    text(rt, b" next ");
+    number(rt, packet_at_ihw(second.tracker));
+    text(rt, b" reset ");
+    number(rt, packet_at_ihw(reset));
+    text(rt, b" next ");
+    number(rt, packet_at_ihw(third.tracker));
+    text(rt, b"\n");
 }
 
 // A TDH with internal trigger and no data.
@@ -319,26 +327,34 @@ fn rule_of(n: u32) -> Rule {
 }
 
 // A record, or nothing where none was written.
-fn show_record(code: u64, first: u64, second: u64) {
+fn show_record(rt: &impl Print, code: u64, first: u64, second: u64) {
     if code != 0 {
-        text(b" ");
-        number(code);
-        text(b" ");
-        number(first);
-        text(b" ");
-        number(second);
+        text(rt, b" ");
+        number(rt, code);
+        text(rt, b" ");
+        number(rt, first);
+        text(rt, b" ");
+        number(rt, second);
     }
 }
 
 // An orbit and a crossing of it.
-fn show_place(orbit: u32, bc: u32) {
-    number(orbit as u64);
-    text(b" ");
-    number(bc as u64);
+fn show_place(rt: &impl Print, orbit: u32, bc: u32) {
+    number(rt, orbit as u64);
+    text(rt, b" ");
+    number(rt, bc as u64);
 }
 
 // "Slow scans trigger every third orbit": the records of the second of two internal TDHs.
-fn show_records(rule: u32, set: u32, orbit: u32, bc: u32, next_orbit: u32, next_bc: u32) {
+fn show_records(
+    rt: &impl Print,
+    rule: u32,
+    set: u32,
+    orbit: u32,
+    bc: u32,
+    next_orbit: u32,
+    next_bc: u32,
+) {
     let mut out = [0u64; MOST_NUMBERS];
     let begun = packet_by_rule(true, set, rule_of(rule), 0).word(
         b"\0\0\0\0\0\0\0\0\0\xE0",
@@ -349,80 +365,89 @@ fn show_records(rule: u32, set: u32, orbit: u32, bc: u32, next_orbit: u32, next_
     earlier
         .tracker
         .word(&internal_tdh(next_orbit, next_bc), &mut told);
-    show_record(told[1], told[2], told[3]);
+    show_record(rt, told[1], told[2], told[3]);
     show_record(
+        rt,
         told[RECORD_WIDTH + 1],
         told[RECORD_WIDTH + 2],
         told[RECORD_WIDTH + 3],
     );
 }
 
-fn show_interval(rule: u32, set: u32, orbit: u32, bc: u32, next_orbit: u32, next_bc: u32) {
-    text(b"rule ");
-    number(rule as u64);
-    text(b" set ");
-    number(set as u64);
-    text(b" from ");
-    show_place(orbit, bc);
-    text(b" to ");
-    show_place(next_orbit, next_bc);
-    text(b":");
-    show_records(rule, set, orbit, bc, next_orbit, next_bc);
-    text(b"\n");
+fn show_interval(
+    rt: &impl Print,
+    rule: u32,
+    set: u32,
+    orbit: u32,
+    bc: u32,
+    next_orbit: u32,
+    next_bc: u32,
+) {
+    text(rt, b"rule ");
+    number(rt, rule as u64);
+    text(rt, b" set ");
+    number(rt, set as u64);
+    text(rt, b" from ");
+    show_place(rt, orbit, bc);
+    text(rt, b" to ");
+    show_place(rt, next_orbit, next_bc);
+    text(rt, b":");
+    show_records(rt, rule, set, orbit, bc, next_orbit, next_bc);
+    text(rt, b"\n");
 }
 
 // By either rule: three orbits on, one orbit on over the turn of the orbit number, and back within the orbit.
-fn show_rules() {
-    show_interval(1, 0, 5, 7, 8, 7);
-    show_interval(1, 10692, 5, 7, 8, 7);
-    show_interval(2, 10692, 5, 7, 8, 7);
-    show_interval(2, 0, 5, 7, 8, 7);
-    show_interval(1, 3564, 4294967295, 0, 0, 0);
-    show_interval(2, 3564, 4294967295, 0, 0, 0);
-    show_interval(2, 1, 4294967295, 3563, 0, 0);
-    show_interval(1, 3563, 7, 5, 7, 4);
-    show_interval(2, 3563, 7, 5, 7, 4);
+fn show_rules(rt: &impl Print) {
+    show_interval(rt, 1, 0, 5, 7, 8, 7);
+    show_interval(rt, 1, 10692, 5, 7, 8, 7);
+    show_interval(rt, 2, 10692, 5, 7, 8, 7);
+    show_interval(rt, 2, 0, 5, 7, 8, 7);
+    show_interval(rt, 1, 3564, 4294967295, 0, 0, 0);
+    show_interval(rt, 2, 3564, 4294967295, 0, 0, 0);
+    show_interval(rt, 2, 1, 4294967295, 3563, 0, 0);
+    show_interval(rt, 1, 3563, 7, 5, 7, 4);
+    show_interval(rt, 2, 3563, 7, 5, 7, 4);
 }
 
 // By rule 2: the same orbit, differences about 2^31, and the largest period.
-fn show_differences() {
-    show_interval(2, 0, 7, 5, 7, 5);
-    show_interval(2, 3564, 7, 5, 7, 5);
-    show_interval(2, 1, 7, 5, 7, 6);
-    show_interval(2, 198, 0, 0, 1, 198);
-    show_interval(2, 3366, 0, 198, 1, 0);
-    show_interval(2, 0, 0, 0, 2147483647, 0);
-    show_interval(2, 0, 0, 0, 2147483648, 0);
-    show_interval(2, 0, 0, 3563, 2147483648, 0);
-    show_interval(2, 4294967295, 1, 0, 0, 0);
-    show_interval(2, 0, 1, 0, 0, 3563);
-    show_interval(2, 4294967295, 0, 0, 1205097, 1587);
-    show_interval(2, 4294967295, 0, 0, 1205097, 1588);
-    show_interval(1, 4294967295, 0, 0, 1205097, 1587);
+fn show_differences(rt: &impl Print) {
+    show_interval(rt, 2, 0, 7, 5, 7, 5);
+    show_interval(rt, 2, 3564, 7, 5, 7, 5);
+    show_interval(rt, 2, 1, 7, 5, 7, 6);
+    show_interval(rt, 2, 198, 0, 0, 1, 198);
+    show_interval(rt, 2, 3366, 0, 198, 1, 0);
+    show_interval(rt, 2, 0, 0, 0, 2147483647, 0);
+    show_interval(rt, 2, 0, 0, 0, 2147483648, 0);
+    show_interval(rt, 2, 0, 0, 3563, 2147483648, 0);
+    show_interval(rt, 2, 4294967295, 1, 0, 0, 0);
+    show_interval(rt, 2, 0, 1, 0, 0, 3563);
+    show_interval(rt, 2, 4294967295, 0, 0, 1205097, 1587);
+    show_interval(rt, 2, 4294967295, 0, 0, 1205097, 1588);
+    show_interval(rt, 1, 4294967295, 0, 0, 1205097, 1587);
 }
 
 // By rule 2: "1045 comes before both".
-fn show_illegal() {
-    show_interval(2, 198, 0, 3366, 0, 3564);
-    show_interval(2, 198, 0, 3564, 1, 198);
-    show_interval(2, 0, 7, 4095, 7, 4095);
-    show_interval(2, 0, 7, 4095, 7, 0);
-    show_interval(2, 0, 8, 0, 7, 3564);
+fn show_illegal(rt: &impl Print) {
+    show_interval(rt, 2, 198, 0, 3366, 0, 3564);
+    show_interval(rt, 2, 198, 0, 3564, 1, 198);
+    show_interval(rt, 2, 0, 7, 4095, 7, 4095);
+    show_interval(rt, 2, 0, 7, 4095, 7, 0);
+    show_interval(rt, 2, 0, 8, 0, 7, 3564);
 }
 
-fn main() {
-    show_files();
-    show_full();
-    show_room();
-    show_period();
-    show_page(0);
-    show_page(1);
-    show_lane(0x21);
-    show_lane(0x28);
-    show_lane(0x29);
-    show_lane(0x47);
-    show_packets();
-    show_rules();
-    show_differences();
-    show_illegal();
+fn main(rt: HostRuntime) {
+    show_files(&rt);
+    show_full(&rt);
+    show_room(&rt);
+    show_period(&rt);
+    show_page(&rt, 0);
+    show_page(&rt, 1);
+    show_lane(&rt, 0x21);
+    show_lane(&rt, 0x28);
+    show_lane(&rt, 0x29);
+    show_lane(&rt, 0x47);
+    show_packets(&rt);
+    show_rules(&rt);
+    show_differences(&rt);
+    show_illegal(&rt);
 }

@@ -1,5 +1,7 @@
 // Prints what each word on standard input is taken as, and its fields: ten bytes a word, from the start state on. A line says what of the
 // input is not shown. A bench file is not shown at all: its header and packets are no words.
+#![tactic(auto)]
+
 ghost use Rattle.std.specs.Prelude.{◌+◌, ◌<◌, ◌≤◌, length};
 
 use payload_fsm::{Advanced, ItsPayloadFsmContinuous, ItsPayloadWord};
@@ -14,83 +16,90 @@ use words::tdt::Tdt;
 // The bytes of the most words that are shown: a packet's 4,096.
 const MOST_BYTES: usize = 40960;
 
-fn text(bytes: &[u8]) {
-    io::write_all(1, bytes);
+fn text(rt: &impl Print, bytes: &[u8]) {
+    let _ = rt.write_all(bytes);
 }
 
-fn field(name: &[u8], n: u64) {
-    text(b" ");
-    text(name);
-    text(b" ");
-    io::print_decimal(1, n);
+fn field(rt: &impl Print, name: &[u8], n: u64) {
+    text(rt, b" ");
+    text(rt, name);
+    text(rt, b" ");
+    let _ = rt.print(n);
 }
 
-fn show_ihw(name: &[u8], word: Word) {
+fn show_ihw(rt: &impl Print, name: &[u8], word: Word) {
     let ihw = Ihw { word: word };
     let lanes = ihw.read();
-    text(name);
-    field(b"active_lanes", lanes.active as u64);
-    field(b"lanes_on", lanes.on as u64);
+    text(rt, name);
+    field(rt, b"active_lanes", lanes.active as u64);
+    field(rt, b"lanes_on", lanes.on as u64);
 }
 
-fn show_tdh(name: &[u8], word: Word) {
+fn show_tdh(rt: &impl Print, name: &[u8], word: Word) {
     let tdh = Tdh { word: word };
-    text(name);
-    field(b"trigger_type", tdh.trigger_type() as u64);
-    field(b"internal_trigger", tdh.internal_trigger() as u64);
-    field(b"no_data", tdh.no_data() as u64);
-    field(b"continuation", tdh.continuation() as u64);
-    field(b"trigger_bc", tdh.trigger_bc() as u64);
-    field(b"trigger_orbit", tdh.trigger_orbit() as u64);
+    text(rt, name);
+    field(rt, b"trigger_type", tdh.trigger_type() as u64);
+    field(rt, b"internal_trigger", tdh.internal_trigger() as u64);
+    field(rt, b"no_data", tdh.no_data() as u64);
+    field(rt, b"continuation", tdh.continuation() as u64);
+    field(rt, b"trigger_bc", tdh.trigger_bc() as u64);
+    field(rt, b"trigger_orbit", tdh.trigger_orbit() as u64);
 }
 
-fn show_tdt(word: Word) {
+fn show_tdt(rt: &impl Print, word: Word) {
     let tdt = Tdt { word: word };
-    text(b" TDT");
-    field(b"packet_done", tdt.packet_done() as u64);
+    text(rt, b" TDT");
+    field(rt, b"packet_done", tdt.packet_done() as u64);
     field(
+        rt,
         b"worst_lane_status",
         words::lane_status::ddw0_tdt_worst_lane_status(word) as u64,
     );
 }
 
-fn show_ddw0(word: Word) {
+fn show_ddw0(rt: &impl Print, word: Word) {
     let ddw0 = Ddw0 { word: word };
-    text(b" DDW0");
-    field(b"index", ddw0.index() as u64);
+    text(rt, b" DDW0");
+    field(rt, b"index", ddw0.index() as u64);
     field(
+        rt,
         b"worst_lane_status",
         words::lane_status::ddw0_tdt_worst_lane_status(word) as u64,
     );
 }
 
-fn show_cdw(word: Word) {
+fn show_cdw(rt: &impl Print, word: Word) {
     let cdw = Cdw { word: word };
-    text(b" CDW");
-    field(b"calibration_user_fields", cdw.calibration_user_fields());
+    text(rt, b" CDW");
     field(
+        rt,
+        b"calibration_user_fields",
+        cdw.calibration_user_fields(),
+    );
+    field(
+        rt,
         b"calibration_word_index",
         cdw.calibration_word_index() as u64,
     );
 }
 
 // The lane that an id names, and where there is no such lane, a word on it. That does not go by the active lanes, so none are given.
-fn show_lane(inner: bool, lane: u8) {
-    field(b"lane", lane as u64);
+fn show_lane(rt: &impl Print, inner: bool, lane: u8) {
+    field(rt, b"lane", lane as u64);
     let answer = lane_answer(inner, lane, 0);
     if answer.is_missing() {
-        text(b", no such lane");
+        text(rt, b", no such lane");
     }
 }
 
-fn show_data_word(word: Word) {
+fn show_data_word(rt: &impl Print, word: Word) {
     let id = word.id();
-    text(b" data word");
+    text(rt, b" data word");
     if id / 32 == 1 {
-        show_lane(true, data_ids::ib_data_word_id_to_lane(id));
+        show_lane(rt, true, data_ids::ib_data_word_id_to_lane(id));
     }
     if id / 32 == 2 {
-        show_lane(false, data_ids::ob_data_word_id_to_lane(id));
+        show_lane(rt, false, data_ids::ob_data_word_id_to_lane(id));
     }
 }
 
@@ -102,81 +111,81 @@ fn digit(n: u8) -> u8
 }
 
 // An id as docs/CODES.md writes it.
-fn hex(id: u8) {
+fn hex(rt: &impl Print, id: u8) {
     let digits = [digit(id / 16), digit(id % 16)];
-    text(b"0x");
-    text(&digits);
+    text(rt, b"0x");
+    text(rt, &digits);
 }
 
-fn show_other_id(id: u8, own: u8) {
+fn show_other_id(rt: &impl Print, id: u8, own: u8) {
     if id != own {
-        text(b", by its place: its id is ");
-        hex(id);
-        text(b", not ");
-        hex(own);
+        text(rt, b", by its place: its id is ");
+        hex(rt, id);
+        text(rt, b", not ");
+        hex(rt, own);
     }
 }
 
 // An IHW and a TDH can be taken as such by their place, whatever the id.
-fn show_place(kind: ItsPayloadWord, id: u8) {
+fn show_place(rt: &impl Print, kind: ItsPayloadWord, id: u8) {
     if kind.is_ihw() {
-        show_other_id(id, Ihw::ID);
+        show_other_id(rt, id, Ihw::ID);
     }
     if kind.is_tdh() {
-        show_other_id(id, Tdh::ID);
+        show_other_id(rt, id, Tdh::ID);
     }
 }
 
-fn show_fields(kind: ItsPayloadWord, word: Word) {
+fn show_fields(rt: &impl Print, kind: ItsPayloadWord, word: Word) {
     match kind {
-        ItsPayloadWord::Ihw => show_ihw(b" IHW", word),
-        ItsPayloadWord::IhwContinuation => show_ihw(b" IHW continuation", word),
-        ItsPayloadWord::Tdh => show_tdh(b" TDH", word),
-        ItsPayloadWord::TdhAfterPacketDone => show_tdh(b" TDH after packet done", word),
-        ItsPayloadWord::TdhContinuation => show_tdh(b" TDH continuation", word),
-        ItsPayloadWord::DataWord => show_data_word(word),
-        ItsPayloadWord::Cdw => show_cdw(word),
-        ItsPayloadWord::Tdt => show_tdt(word),
-        ItsPayloadWord::Ddw0 => show_ddw0(word),
+        ItsPayloadWord::Ihw => show_ihw(rt, b" IHW", word),
+        ItsPayloadWord::IhwContinuation => show_ihw(rt, b" IHW continuation", word),
+        ItsPayloadWord::Tdh => show_tdh(rt, b" TDH", word),
+        ItsPayloadWord::TdhAfterPacketDone => show_tdh(rt, b" TDH after packet done", word),
+        ItsPayloadWord::TdhContinuation => show_tdh(rt, b" TDH continuation", word),
+        ItsPayloadWord::DataWord => show_data_word(rt, word),
+        ItsPayloadWord::Cdw => show_cdw(rt, word),
+        ItsPayloadWord::Tdt => show_tdt(rt, word),
+        ItsPayloadWord::Ddw0 => show_ddw0(rt, word),
     }
 }
 
 // One word's line.
-fn show(a: Advanced, word: Word) {
+fn show(rt: &impl Print, a: Advanced, word: Word) {
     let kind = a.word;
-    text(b"id");
-    text(b" ");
-    io::print_decimal(1, word.id() as u64);
-    show_fields(kind, word);
-    show_place(kind, word.id());
+    text(rt, b"id");
+    text(rt, b" ");
+    let _ = rt.print(word.id() as u64);
+    show_fields(rt, kind, word);
+    show_place(rt, kind, word.id());
     if a.guessed {
-        text(b", a guess");
+        text(rt, b", a guess");
     }
-    text(b"\n");
+    text(rt, b"\n");
 }
 
 // All whole words.
-fn show_words(bytes: &[u8]) {
+fn show_words(rt: &impl Print, bytes: &[u8]) {
     let mut fsm = ItsPayloadFsmContinuous::new();
     for i in 0..bytes.len() / Word::SIZE {
         let word = Word::load_at(bytes, Word::SIZE * i);
         let a = fsm.advance(word);
-        show(a, word);
+        show(rt, a, word);
         fsm = a.fsm;
     }
 }
 
 // What is not shown of so many bytes.
-fn show_rest(got: usize) {
+fn show_rest(rt: &impl Print, got: usize) {
     if got == 0 {
-        text(b"no words\n");
+        text(rt, b"no words\n");
     }
     if MOST_BYTES < got {
-        text(b"what follows these 4096 words is not shown\n");
+        text(rt, b"what follows these 4096 words is not shown\n");
     } else if got % Word::SIZE != 0 {
-        text(b"bytes left over at the end: ");
-        io::print_decimal(1, (got % Word::SIZE) as u64);
-        text(b"\n");
+        text(rt, b"bytes left over at the end: ");
+        let _ = rt.print((got % Word::SIZE) as u64);
+        text(rt, b"\n");
     }
 }
 
@@ -216,27 +225,30 @@ fn words_of_file(bytes: &[u8]) -> u64
 }
 
 // A bench file, whose words begin at a place.
-fn show_file(place: u64)
+fn show_file(rt: &impl Print, place: u64)
     requires { place < 4294967296 }
 {
-    text(b"this begins like a bench file, which ./check takes; for its words alone: tail -c +");
-    io::print_decimal(1, place + 1);
-    text(b" FILE | ./run fields\n");
+    text(
+        rt,
+        b"this begins like a bench file, which ./check takes; for its words alone: tail -c +",
+    );
+    let _ = rt.print(place + 1);
+    text(rt, b" FILE | ./run fields\n");
 }
 
-fn show_input(bytes: &[u8]) {
+fn show_input(rt: &impl Print, bytes: &[u8]) {
     let place = words_of_file(bytes);
     if place != 0 {
-        show_file(place);
+        show_file(rt, place);
         return;
     }
-    show_words(bytes);
-    show_rest(bytes.len());
+    show_words(rt, bytes);
+    show_rest(rt, bytes.len());
 }
 
-fn main() {
+fn main(rt: HostRuntime) {
     // One byte more than is shown, so that more is seen to be more.
     let mut bytes = [0u8; 40961];
-    let got = io::read_full(0, &mut bytes);
-    show_input(&bytes[..got]);
+    let got = input::read_all(&mut rt.stdin(), &mut bytes).n;
+    show_input(&rt, &bytes[..got]);
 }

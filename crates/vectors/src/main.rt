@@ -1,12 +1,17 @@
 // Replays recorded calls, and compares each answer with the one that the given Rust gave. tests/make/record.py made the files of data/ and
 // says how they are written. The Rust's records have no packet: ours are held to a count that is kept here.
 // Document 01, "At the edges": "The rest, and the differential runs, are done by a program."
+#![tactic(auto)]
+
 ghost use Rattle.std.specs.Prelude.{◌+◌, ◌*◌, ◌<◌, ◌≤◌, length};
 ghost use Rattle.records.specs.Records.{record_width, most_records};
 ghost use Rattle.cdp_running.specs.Tracker.{Good};
 
 use cdp_running::{Told, Tracker};
 use packet::{Packet, Rule, Settings};
+use std::fs;
+use std::io::Read;
+use std::rt::Files;
 use stored::FrameTold;
 use words::little_endian::{get16, get32, get64};
 
@@ -17,14 +22,14 @@ const MAX_CALLS: u64 = 65536;
 const MOST_NUMBERS: usize = records::MOST_RECORDS * records::RECORD_WIDTH;
 
 // What comes next in a file. Whole: as many bytes as were asked for; behind them stand zeros.
-#[derive(Drop)]
+#[derive(Clone, Copy)]
 struct Part {
     whole: bool,
     bytes: [u8; 22],
 }
 
 // The tracker after a call of the file, and what the call was: a start, a packet, a word, one whose answer differs, the last one.
-#[derive(Drop)]
+#[derive(Clone, Copy)]
 struct Replayed {
     tracker: Tracker,
     start: bool,
@@ -35,24 +40,24 @@ struct Replayed {
 }
 
 // What was compared in a file.
-#[derive(Drop)]
+#[derive(Clone, Copy)]
 struct Tally {
     sequences: u32,
     words: u32,
     differ: u32,
 }
 
-fn fill(fd: i32, bytes: &mut [u8], n: usize) -> usize
+fn fill<F: Read>(from: &mut F, bytes: &mut [u8], n: usize) -> usize
     requires { n ≤ length bytes.old }
 {
-    io::read_full(fd, &mut bytes[..n])
+    input::read_all(from, &mut bytes[..n]).n
 }
 
-fn take(fd: i32, n: usize) -> Part
+fn take<F: Read>(from: &mut F, n: usize) -> Part
     requires { n ≤ 22 }
 {
     let mut bytes = [0u8; 22];
-    let got = fill(fd, &mut bytes, n);
+    let got = fill(from, &mut bytes, n);
     Part {
         whole: got == n,
         bytes: bytes,
@@ -97,22 +102,22 @@ fn same_numbers(b: &[u8; 22], out: &[u64; MOST_NUMBERS], at: usize, packets: u64
 }
 
 // Is record i the one that the file has next, behind so many packets?
-fn same_record(fd: i32, out: &[u64; MOST_NUMBERS], i: usize, packets: u64) -> bool
+fn same_record<F: Read>(from: &mut F, out: &[u64; MOST_NUMBERS], i: usize, packets: u64) -> bool
     requires { i < most_records }
 {
-    let next = take(fd, 18);
+    let next = take(from, 18);
     let b = next.bytes;
     let same = same_numbers(&b, out, records::RECORD_WIDTH * i, packets);
     next.whole & same
 }
 
-fn same_records(fd: i32, out: &[u64; MOST_NUMBERS], n: u8, packets: u64) -> bool {
+fn same_records<F: Read>(from: &mut F, out: &[u64; MOST_NUMBERS], n: u8, packets: u64) -> bool {
     if records::MOST_RECORDS < n as usize {
         return false;
     }
     let mut same = true;
     for i in 0..n as usize {
-        let this = same_record(fd, out, i, packets);
+        let this = same_record(from, out, i, packets);
         same = same & this;
     }
     same
@@ -124,13 +129,13 @@ fn same_ends(b: &[u8; 22], start: u64, end: u64) -> bool {
 }
 
 // Is a frame, by its number and what the file has next, the one told?
-fn same_frame(fd: i32, told: FrameTold, frame: u8) -> bool {
+fn same_frame<F: Read>(from: &mut F, told: FrameTold, frame: u8) -> bool {
     let mut closed = Part {
         whole: true,
         bytes: [0; 22],
     };
     if frame == 2 {
-        closed = take(fd, 16);
+        closed = take(from, 16);
     }
     let b = closed.bytes;
     let is = match told {
@@ -142,8 +147,8 @@ fn same_frame(fd: i32, told: FrameTold, frame: u8) -> bool {
 }
 
 // Is the answer to a word the one that the file has next: kind, guessed, frame, number of records, and what hangs on these?
-fn same_answer(fd: i32, told: Told, out: &[u64; MOST_NUMBERS], packets: u64) -> bool {
-    let next = take(fd, 4);
+fn same_answer<F: Read>(from: &mut F, told: Told, out: &[u64; MOST_NUMBERS], packets: u64) -> bool {
+    let next = take(from, 4);
     let b = next.bytes;
     match told {
         Told::Taken(taken) => {
@@ -152,8 +157,8 @@ fn same_answer(fd: i32, told: Told, out: &[u64; MOST_NUMBERS], packets: u64) -> 
             let as_kind = payload_fsm::kind_number(kind) == b[0];
             let as_guess = one(taken.guessed) == b[1] as u32;
             let as_count = taken.records == b[3] as u64;
-            let as_frame = same_frame(fd, frame, b[2]);
-            let as_records = same_records(fd, out, b[3], packets);
+            let as_frame = same_frame(from, frame, b[2]);
+            let as_records = same_records(from, out, b[3], packets);
             next.whole & (as_kind & (as_guess & (as_frame & (as_count & as_records))))
         }
         Told::Refused(n) => false,
@@ -161,17 +166,17 @@ fn same_answer(fd: i32, told: Told, out: &[u64; MOST_NUMBERS], packets: u64) -> 
 }
 
 // A word, behind so many packets since the start.
-fn word(t: Tracker, fd: i32, packets: u64) -> Replayed
+fn word<F: Read>(t: Tracker, from: &mut F, packets: u64) -> Replayed
     requires { Good t }
     ensures { Good result.tracker }
 {
     let mut bytes = [0u8; 10];
-    let got = io::read_full(fd, &mut bytes);
+    let got = input::read_all(from, &mut bytes).n;
     let mut out = [0u64; MOST_NUMBERS];
     let a = t.word(&bytes[..got], &mut out);
     let told = a.told;
     let after = a.tracker;
-    let same = same_answer(fd, told, &out, packets);
+    let same = same_answer(from, told, &out, packets);
     Replayed {
         tracker: after,
         start: false,
@@ -182,10 +187,10 @@ fn word(t: Tracker, fd: i32, packets: u64) -> Replayed
     }
 }
 
-fn start(fd: i32) -> Replayed
+fn start<F: Read>(from: &mut F) -> Replayed
     ensures { Good result.tracker }
 {
-    let next = take(fd, 5);
+    let next = take(from, 5);
     let b = next.bytes;
     let settings = settings_of(&b);
     let t = Tracker::start(settings);
@@ -199,11 +204,11 @@ fn start(fd: i32) -> Replayed
     }
 }
 
-fn packet(t: Tracker, fd: i32) -> Replayed
+fn packet<F: Read>(t: Tracker, from: &mut F) -> Replayed
     requires { Good t }
     ensures { Good result.tracker }
 {
-    let next = take(fd, 22);
+    let next = take(from, 22);
     let b = next.bytes;
     let header = packet_of(&b);
     let a = t.packet(header);
@@ -249,20 +254,20 @@ fn end(t: Tracker, broken: bool) -> Replayed
 }
 
 // The next call of the file, by its number, behind so many packets since the start.
-fn step(t: Tracker, fd: i32, packets: u64) -> Replayed
+fn step<F: Read>(t: Tracker, from: &mut F, packets: u64) -> Replayed
     requires { Good t }
     ensures { Good result.tracker }
 {
-    let next = take(fd, 1);
+    let next = take(from, 1);
     let b = next.bytes;
     if !next.whole {
         return end(t, false);
     }
     match b[0] {
-        0 => start(fd),
-        1 => packet(t, fd),
+        0 => start(from),
+        1 => packet(t, from),
         2 => reset(t),
-        3 => word(t, fd, packets),
+        3 => word(t, from, packets),
         _ => end(t, true),
     }
 }
@@ -282,7 +287,7 @@ fn packets_after(packets: u64, start: bool, packet: bool) -> u64
 }
 
 // All calls of a file.
-fn replay(fd: i32) -> Tally {
+fn replay<F: Read>(from: &mut F) -> Tally {
     let mut t = Tracker::start(Settings {
         running: false,
         frames: false,
@@ -297,7 +302,7 @@ fn replay(fd: i32) -> Tally {
     };
     let mut packets: u64 = 0;
     for n in 0..MAX_CALLS {
-        let replayed = step(t, fd, packets);
+        let replayed = step(t, from, packets);
         let after = replayed.tracker;
         t = after;
         packets = packets_after(packets, replayed.start, replayed.packet);
@@ -312,30 +317,30 @@ fn replay(fd: i32) -> Tally {
     y
 }
 
-fn text(bytes: &[u8]) {
-    io::write_all(1, bytes);
+fn text(rt: &impl Print, bytes: &[u8]) {
+    let _ = rt.write_all(bytes);
 }
 
 // What was compared, if anything was: a file without a word is no success.
-fn show(name: &[u8], sequences: u64, words: u64, differ: u64) {
-    text(name);
+fn show(rt: &impl Print, name: &str, sequences: u64, words: u64, differ: u64) {
+    text(rt, name.as_bytes());
     if words == 0 {
-        text(b": nothing was compared\n");
+        text(rt, b": nothing was compared\n");
         return;
     }
-    text(b": ");
-    io::print_decimal(1, sequences);
-    text(b" sequences, ");
-    io::print_decimal(1, words);
-    text(b" words, ");
-    io::print_decimal(1, differ);
-    text(b" differ\n");
+    text(rt, b": ");
+    let _ = rt.print(sequences);
+    text(rt, b" sequences, ");
+    let _ = rt.print(words);
+    text(rt, b" words, ");
+    let _ = rt.print(differ);
+    text(rt, b" differ\n");
 }
 
 // A file that can't be opened.
-fn missing(name: &[u8]) -> Tally {
-    text(name);
-    text(b": missing\n");
+fn missing(rt: &impl Print, name: &str) -> Tally {
+    text(rt, name.as_bytes());
+    text(rt, b": missing\n");
     Tally {
         sequences: 0,
         words: 0,
@@ -344,14 +349,18 @@ fn missing(name: &[u8]) -> Tally {
 }
 
 // A file by its name.
-fn file(name: &[u8]) -> Tally {
-    let fd = os::open_read(name);
-    if fd < 0 {
-        return missing(name);
-    }
-    let y = replay(fd);
-    libc::close(fd);
-    show(name, y.sequences as u64, y.words as u64, y.differ as u64);
+fn file(rt: &(impl Print + Files), name: &str) -> Tally {
+    let Ok(mut from) = fs::open(rt, name) else {
+        return missing(rt, name);
+    };
+    let y = replay(&mut from);
+    show(
+        rt,
+        name,
+        y.sequences as u64,
+        y.words as u64,
+        y.differ as u64,
+    );
     y
 }
 
@@ -360,24 +369,25 @@ fn sum(a: u32, b: u32, c: u32, d: u32, e: u32, f: u32, g: u32) -> u64 {
 }
 
 // A last line of its own where not every file had a word, so that the sums are not taken for all.
-fn show_left_out(files: u64) {
+fn show_left_out(rt: &impl Print, files: u64) {
     if 0 < files {
-        text(b"files without a word to compare: ");
-        io::print_decimal(1, files);
-        text(b" of 7\n");
+        text(rt, b"files without a word to compare: ");
+        let _ = rt.print(files);
+        text(rt, b" of 7\n");
     }
 }
 
-fn main() {
-    let a = file(b"ids");
-    let b = file(b"orbits");
-    let c = file(b"damaged");
-    let d = file(b"intervals");
-    let e = file(b"lanes");
-    let f = file(b"cdws");
-    let g = file(b"chance");
+fn main(rt: HostRuntime) {
+    let a = file(&rt, "ids");
+    let b = file(&rt, "orbits");
+    let c = file(&rt, "damaged");
+    let d = file(&rt, "intervals");
+    let e = file(&rt, "lanes");
+    let f = file(&rt, "cdws");
+    let g = file(&rt, "chance");
     show(
-        b"all",
+        &rt,
+        "all",
         sum(
             a.sequences,
             b.sequences,
@@ -394,13 +404,16 @@ fn main() {
             a.differ, b.differ, c.differ, d.differ, e.differ, f.differ, g.differ,
         ),
     );
-    show_left_out(sum(
-        one(a.words == 0),
-        one(b.words == 0),
-        one(c.words == 0),
-        one(d.words == 0),
-        one(e.words == 0),
-        one(f.words == 0),
-        one(g.words == 0),
-    ));
+    show_left_out(
+        &rt,
+        sum(
+            one(a.words == 0),
+            one(b.words == 0),
+            one(c.words == 0),
+            one(d.words == 0),
+            one(e.words == 0),
+            one(f.words == 0),
+            one(g.words == 0),
+        ),
+    );
 }

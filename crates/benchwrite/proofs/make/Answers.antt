@@ -1,0 +1,8 @@
+-- The answer is that of the pieces read.
+-- Assumes nothing.
+use Rattle.script.proofs.Answered.{is_answer}
+use Rattle.benchwrite.proofs.make.Goals as goal
+
+pub returns-clause-answer : goal.returns-clause-answer
+returns-clause-answer g c _ =
+    is_answer c.requires.buffer_len c.requires.held_len c.read_text-text.ensures c.finish-answer.ensures
