@@ -2,14 +2,13 @@
 # run.sh: the benchmark, one command: khz_payload and khz_word of an archive, the plain C version (tests/oracle/plain.c) and the given Rust
 # on the same streams.
 #
-#     bench/run.sh [--instructions | --stack] [--before OLDER] [--unproved | ARCHIVE]
+#     bench/run.sh [--instructions | --stack] [--before OLDER] [ARCHIVE]
 #
 #   ARCHIVE         of the library, for this machine; default: tools/native-lib.sh makes it. Where that can't be, khz is left out, and the
-#                   output says so. What is shipped is x86-64: on another machine a figure is of the same code, compiled for that machine
-#   --unproved      makes it without proving it first
+#                   output says so
 #   --before OLDER  an older archive of the library, for this machine: two columns more, so that before and after are of one run
 #   --instructions  instructions a word by valgrind's callgrind, in place of times
-#   --stack         bytes of stack a call, by painting, in place of times; on a machine that is no x86-64, of the shipped archive too, emulated
+#   --stack         bytes of stack a call, by painting, in place of times
 #   RUST_SRC        the given Rust text, default ../shared/docs/src beside the repository; without it or without cargo the Rust is left out
 #   BUILD_DIR       where the Rust is built; default: a temporary folder
 #   WORDS, ROUNDS   size of a stream (default 20000) and interleaved rounds (default 101)
@@ -18,15 +17,13 @@
 # Everything is built in a temporary folder. Streams and columns: bench.c, streams.c.
 set -eu
 cd "$(dirname "$0")/.."
-. tools/kit.sh
-instructions='' stack='' unproved='' before='' archive=''
+instructions='' stack='' before='' archive=''
 while [ $# -gt 0 ]; do
     case $1 in
     --instructions) instructions=1 ;;
     --stack) stack=1 ;;
-    --unproved) unproved=--unproved ;;
     --before) before=${2:?--before ARCHIVE}; shift ;;
-    -*) echo "usage: bench/run.sh [--instructions | --stack] [--before OLDER] [--unproved | ARCHIVE]" >&2; exit 2 ;;
+    -*) echo "usage: bench/run.sh [--instructions | --stack] [--before OLDER] [ARCHIVE]" >&2; exit 2 ;;
     *) archive=$1 ;;
     esac
     shift
@@ -52,8 +49,7 @@ esac
 
 if [ -z "$archive" ]; then
     archive=$work/libkhandzorul.a
-    # shellcheck disable=SC2086 # no word where it is proved
-    sh tools/native-lib.sh $unproved khandzorul "$archive" >"$work/made" 2>"$work/why" || tail -n 1 "$work/why" >&2
+    sh tools/native-lib.sh khandzorul "$archive" >"$work/made" 2>"$work/why" || tail -n 1 "$work/why" >&2
     [ ! -s "$work/made" ] || echo "library   $(sed 's/^native-lib: //' "$work/made")"
 fi
 set -- -std=c11 -O2 -Wall -Wextra -I include -I tests/oracle bench/bench.c bench/streams.c tests/oracle/plain.c
@@ -76,14 +72,6 @@ if [ -n "$stack" ]; then
         echo "figures   bytes of stack a call, $a"
         "$work/stack"
     done
-    # on another machine, what is shipped too: the same instructions, through the kit's emulator
-    shipped=target/staticlib/libkhandzorul.a
-    if [ "$(uname -m)" != x86_64 ] && [ -f "$shipped" ]; then
-        kit_x86 "$work/x86" "$shipped" bench/stack.c bench/streams.c
-        said 'shipped  ' "$shipped"
-        echo "figures   bytes of stack a call, $shipped, x86-64, emulated"
-        kit_start "$work/x86"
-    fi
     exit 0
 fi
 if [ -n "$before" ]; then

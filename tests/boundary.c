@@ -2,7 +2,7 @@
  * its range, khz_check_file about its edges, the writers of words beside a model that sets bit after bit, the worst lane beside all 28, two
  * trackers that are back in step, the page at an IHW, every id in the data section against the active lanes, and the count of packets up to its last.
  *
- *     cc -std=c11 -I include tests/boundary.c target/staticlib/libkhandzorul.a -o /tmp/boundary && /tmp/boundary
+ *     cc -std=c11 -I include tests/boundary.c libkhandzorul.a -o /tmp/boundary && /tmp/boundary
  *
  * What holds at every call (refusals, records left alone, payloads against words) is checked by oracle/khz_driver.c -c.
  * Last line: `boundary: N checks, M failed`; the exit status says the same.

@@ -1,10 +1,9 @@
 #!/bin/sh
 # boundary.sh: the C boundary as its users meet it: header, calls by example, examples, and the comparison with the given Rust.
 #
-#     tests/boundary.sh [--unproved | --lib ARCHIVE]
+#     tests/boundary.sh [--lib ARCHIVE]
 #
-#   --unproved   the library without its proof, which is there in seconds (tools/native-lib.sh); for the gate, which proves it elsewhere
-#   --lib        an archive that is there already
+#   --lib        an archive that is there already; else tools/native-lib.sh makes it
 #   RUST_SRC, CC as for oracle/compare.py; CXX the C++ compiler, default c++
 #   BUILD_DIR    where the Rust is built and left, outside the repository; default: a temporary folder
 #
@@ -12,18 +11,16 @@
 # counts them, however the run ends: 'boundary: N parts done, N left out, N failed'.
 # Exit status: 1 if a part failed, 3 if all were left out. Everything is built in a temporary folder.
 set -eu
-usage() { echo "usage: tests/boundary.sh [--unproved | --lib ARCHIVE]" >&2; exit 2; }
+usage() { echo "usage: tests/boundary.sh [--lib ARCHIVE]" >&2; exit 2; }
 absolute() { case $1 in /*) echo "$1" ;; *) echo "$PWD/$1" ;; esac; } # by the caller's folder
-how='' archive=''
+archive=''
 case $#${1:-} in
 0) ;;
-1--unproved) how=--unproved ;;
 2--lib) archive=$(absolute "$2") ;;
 *) usage ;;
 esac
 rust=${BUILD_DIR:+$(absolute "$BUILD_DIR")}
 cd "$(dirname "$0")/.."
-. tools/kit.sh
 cc=${CC:-cc} cxx=${CXX:-c++} # with flags, where they have any
 done=0 out=0 failed=0 work=''
 
@@ -156,17 +153,6 @@ writer_rust() {
     rustc -O --edition 2021 -D warnings examples/write.rs -L "$work" -l static=khandzorul -o "$work/write_rust"
     run_writer "$work/write_rust"
 }
-# On a machine that is no x86-64: the archive that is shipped, in x86-64 programs, through the kit's emulator.
-shipped() {
-    kit_x86 "$work/x86" target/staticlib/libkhandzorul.a tests/boundary.c
-    kit_start "$work/x86"
-}
-shipped_driver() {
-    kit_x86 "$work/x86" target/staticlib/libkhandzorul.a tests/oracle/khz_driver.c
-    kit_start "$work/x86" -c <"$work/oracle/calls.txt" >"$work/x86.txt"
-    cmp "$work/x86.txt" "$work/oracle/ours.txt"
-}
-
 if ! has "$cc"; then
     left_out 'all parts' "no C compiler: $cc"
     exit 3
@@ -176,7 +162,7 @@ if [ -n "$archive" ]; then
     archive=$work/libkhandzorul.a
 else
     archive=$work/libkhandzorul.a
-    part 'the library' sh tools/native-lib.sh ${how:+"$how"} khandzorul "$archive"
+    part 'the library' sh tools/native-lib.sh khandzorul "$archive"
     [ "$failed" -eq 0 ] || exit 1
 fi
 part 'the header in C' header_c
@@ -197,16 +183,5 @@ if has python3; then
 else
     left_out 'the library beside the given Rust' 'no python3'
     left_out 'the recorded answers of vectors' 'no python3'
-fi
-if [ "$(uname -m)" = x86_64 ] && [ -z "$how" ]; then
-    : # the archive above is the shipped one
-elif [ -n "$how" ] || [ ! -f target/staticlib/libkhandzorul.a ]; then
-    left_out 'the archive that is shipped' 'nothing is proved in this run'
-elif ! has rt; then
-    left_out 'the archive that is shipped' 'no Rattle kit'
-else
-    kit_find
-    part 'the archive that is shipped, emulated' shipped
-    [ ! -f "$work/oracle/ours.txt" ] || part 'the same beside the calls above' shipped_driver
 fi
 [ "$failed" -eq 0 ] # the exit status

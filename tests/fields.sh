@@ -1,22 +1,22 @@
 #!/bin/sh
 # fields.sh: what the program fields says of input that is no words, or not words alone. The answers were worked out by hand from document 01.
 #
-#     tests/fields.sh          needs target/bin/fields (rt check fields)
+#     tests/fields.sh          the program is proved and built where it is not
 #
 # A line for each trial that fails; the last line says how many there were. Exit status 1 if one failed.
 set -eu
 cd "$(dirname "$0")/.."
 . tools/kit.sh
-[ -x target/bin/fields ] || { echo "fields: 0 trials, 1 failed: target/bin/fields is not there (rt check fields)"; exit 1; }
 work=$(mktemp -d "${TMPDIR:-/tmp}/khandzorul-fields.XXXXXX")
 trap 'rm -rf "$work"' EXIT
 trap 'exit 1' HUP INT TERM
+kit_program fields "$work" || { echo "fields: 0 trials, 1 failed: fields is not there"; exit 1; }
 tried=0 failed=0
 
 try() { # WHAT: on the bytes of $work/in, against the lines of standard input
     tried=$((tried + 1))
     cat >"$work/must"
-    kit_start target/bin/fields <"$work/in" >"$work/out" || echo "exit status $?" >>"$work/out"
+    "$work/fields" <"$work/in" >"$work/out" || echo "exit status $?" >>"$work/out"
     cmp -s "$work/out" "$work/must" || { failed=$((failed + 1)); echo "fields: $1: printed"; tail -n 5 "$work/out"; }
 }
 hex() { printf '%s\n' "$*" | sh tools/hex.sh >"$work/in"; }

@@ -4,41 +4,18 @@
 #
 #     tests/user.sh            the programs are proved and built by ./check, ./compare, ./write and ./run where they are not
 #
-# What would spoil the checkout is tried on a copy of it. A line for each trial that fails, and for each that was left out; the last line
-# says how many there were. Exit status 1 if one failed.
+# What would spoil the checkout is tried on a copy of it, in which nothing is proved at first, and by tests/scripts.sh on a small one. A line for each trial
+# that fails, and for each that was left out; the last line says how many there were. Exit status 1 if one failed.
 set -eu
 cd "$(dirname "$(readlink -f "$0")")/.."
 . tools/kit.sh
+trials=user
 here=$PWD
 work=$(mktemp -d "${TMPDIR:-/tmp}/khandzorul-user.XXXXXX")
 trap 'chmod -R u+w "$work"; rm -rf "$work"' EXIT
 trap 'exit 1' HUP INT TERM
-tried=0 failed=0
+. tests/trials.sh
 
-wrong() { failed=$((failed + 1)); echo "user: $what: $1"; }
-left_out() { echo "user: left out: $1"; }
-judge() { # STATUS OUTPUT-FILE ERROR-PATTERN: what was done, against what must be done
-    tried=$((tried + 1))
-    [ "$status" -eq "$1" ] || wrong "exit status $status, not $1"
-    cmp -s "$work/out" "$2" || { wrong 'printed'; head -n 20 "$work/out"; }
-    # what notes say, of the kit or of another run, is no word about the file; a pattern 'note: ..' asks for one, and for nothing else
-    grep -v '^note: ' "$work/err" >"$work/said" || true
-    case $3 in
-    '') [ ! -s "$work/said" ] || { wrong 'said'; cat "$work/said"; } ;;
-    'note: '*)
-        grep -q -- "^$3" "$work/err" || { wrong "did not say '$3', but"; cat "$work/err"; }
-        [ ! -s "$work/said" ] || { wrong 'said'; cat "$work/said"; }
-        ;;
-    *) grep -q -- "$3" "$work/said" || { wrong "did not say '$3', but"; cat "$work/said"; } ;;
-    esac
-}
-try_command() { # WHAT STATUS OUTPUT-FILE ERROR-PATTERN COMMAND..
-    what=$1 must=$2 expected=$3 says=$4
-    shift 4
-    status=0
-    "$@" >"$work/out" 2>"$work/err" </dev/null || status=$?
-    judge "$must" "$expected" "$says"
-}
 try() { # WHAT STATUS OUTPUT-FILE ERROR-PATTERN ARGUMENT..: of ./check
     what=$1 must=$2 expected=$3 says=$4
     shift 4
@@ -85,17 +62,6 @@ example() { # NAME STATUS OUTPUT-FILE: a script of examples/, written and checke
     what="write: examples/$1.stave, checked" status=0
     ./write "examples/$1.stave" 2>"$work/err" | ./check - >"$work/out" 2>>"$work/err" || status=$?
     judge "$2" "$3" ''
-}
-background() { # NAME COMMAND..: leaves what it printed and said, and its exit status last
-    name=$1 status=0
-    shift
-    "$@" >"$work/$name.printed" 2>"$work/$name.said" </dev/null || status=$?
-    echo "$status" >"$work/$name.status"
-}
-background_ended() { # NAME: for judge
-    status=$(cat "$work/$1.status")
-    mv "$work/$1.printed" "$work/out"
-    mv "$work/$1.said" "$work/err"
 }
 bytes() { head -c "$1" /dev/zero; }
 with() { # FILE OFFSET BYTES-FOR-PRINTF HOW-MANY: the file with other bytes there
@@ -614,66 +580,61 @@ judge 0 "$work/none" ''
 [ "$(grep -c . "$work/script")" -eq 5 ] || wrong 'has not five lines'
 
 # the library for another target; the one for this machine can be run
-if command -v python3 >/dev/null 2>&1; then
-    lib() { tools/native-lib.sh --unproved "$@" khandzorul "$work/lib.a"; }
-    for target in thumbv7em-none-eabi riscv64-unknown-elf; do
-        echo "native-lib: khandzorul, not proved, for $target: no one vouches for it, and nothing of it was run" >"$work/made"
-        try_command "the library for $target" 0 "$work/made" '' lib --target "$target" -Oz
+lib() { tools/native-lib.sh "$@" khandzorul "$work/lib.a"; }
+for target in thumbv7em-none-eabi riscv64-unknown-elf; do
+    echo "native-lib: khandzorul, proved, for $target: no one vouches for it, and nothing of it was run" >"$work/made"
+    try_command "the library for $target" 0 "$work/made" '' lib --target "$target" -Oz
+done
+try_command 'the library for a big-endian target' 2 "$work/nothing" 'not little-endian' lib --target s390x-linux-gnu
+try_command 'the library for a target that is none' 2 "$work/nothing" 'no target nowhere' lib --target nowhere
+try_command 'the library for no target' 2 "$work/nothing" 'usage' tools/native-lib.sh --target
+if command -v "${CC:-cc}" >/dev/null 2>&1; then
+    for level in -O3 -Oz; do
+        what="calls by example, this machine as a target, $level" status=0
+        lib --target x86_64-unknown-linux-gnu "$level" >"$work/err" 2>&1 &&
+            "${CC:-cc}" -std=c11 -I include tests/boundary.c "$work/lib.a" -o "$work/boundary" 2>>"$work/err" &&
+            "$work/boundary" >"$work/out" 2>>"$work/err" || status=$?
+        [ "$status" -ne 0 ] || : >"$work/err"
+        sed -n '$s/: [0-9]* checks/: checks/p' "$work/out" >"$work/seen"
+        mv "$work/seen" "$work/out"
+        echo 'boundary: checks, 0 failed' >"$work/passed"
+        judge 0 "$work/passed" ''
     done
-    try_command 'the library for a big-endian target' 2 "$work/nothing" 'not little-endian' lib --target s390x-linux-gnu
-    try_command 'the library for a target that is none' 2 "$work/nothing" 'no target nowhere' lib --target nowhere
-    try_command 'the library for no target' 2 "$work/nothing" 'usage' tools/native-lib.sh --target
-    if command -v "${CC:-cc}" >/dev/null 2>&1; then
-        for level in -O3 -Oz; do
-            what="calls by example, this machine as a target, $level" status=0
-            lib --target "$(uname -m)-unknown-linux-gnu" "$level" >"$work/err" 2>&1 &&
-                "${CC:-cc}" -std=c11 -I include tests/boundary.c "$work/lib.a" -o "$work/boundary" 2>>"$work/err" &&
-                "$work/boundary" >"$work/out" 2>>"$work/err" || status=$?
-            [ "$status" -ne 0 ] || : >"$work/err"
-            sed -n '$s/: [0-9]* checks/: checks/p' "$work/out" >"$work/seen"
-            mv "$work/seen" "$work/out"
-            echo 'boundary: checks, 0 failed' >"$work/passed"
-            judge 0 "$work/passed" ''
-        done
-    else
-        left_out 'the library for this machine as a target (no C compiler)'
-    fi
 else
-    left_out 'the library for another target (no python3)'
+    left_out 'the library for this machine as a target (no C compiler)'
 fi
 
-# A copy of the checkout, with all that benchcheck, compare and benchwrite were proved from.
-copy=$work/copy
-mkdir -p "$copy/target/rlib"
-cp -Rp check compare write run README.md CHANGELOG.md crates.txt crates tools "$copy"
-take() {
-    cp -Rp target/bin target/obj target/log target/stamp "$copy/target"
-    for program in benchcheck compare benchwrite; do
-        kit_below $program
-        for d in $found; do [ ! -d "crates/$d" ] || cp -Rp "target/rlib/$d.rlib" "$copy/target/rlib"; done
-    done
-}
-kit_alone take
+# a program that prints nothing says nothing of the files: here since a cp takes its second file away
+mkdir "$work/taking"
+# shellcheck disable=SC2016 # the other shell's
+printf '%s\n' '#!/bin/sh' 'PATH=${PATH#*:}' 'cp "$@" && rm -f "${2%/*}/second.bench"' >"$work/taking/cp"
+chmod +x "$work/taking/cp"
+try_command 'compare: a copy that is lost' 2 "$work/nothing" '^compare: the program could not read a file' \
+    env PATH="$work/taking:$PATH" ./compare "$whole" "$whole"
 
-# four files at once, while the program is lost: one run builds it, the others wait
-rm "$copy/target/bin/benchcheck"
-for f in whole_case two_pages clean short; do background "$f" "$copy/check" "$work/$f" & done
-wait
-cp "$work/none" "$work/clean.out"
-cp "$work/refused6" "$work/short.out"
-cp examples/*.out "$work"
+# A copy of the checkout, where no program is: four files at once, one run proves and builds it, the others wait.
+copy=$work/copy
+mkdir -p "$copy/crates" "$copy/.git" # it is the top of a repository
+cp -Rp check compare write run README.md CHANGELOG.md crates.txt tools "$copy"
+for d in crates/*; do
+    mkdir "$copy/$d"
+    for part in src specs proofs; do [ ! -d "$d/$part" ] || cp -Rp "$d/$part" "$copy/$d"; done
+done
 at_once() { # FILE STATUS ERROR-PATTERN
     what="four at once, the program lost: $1"
     background_ended "$1"
     judge "$2" "$work/$1.out" "$3"
 }
+for f in whole_case two_pages clean short; do background "$f" "$copy/check" "$work/$f" & done
+wait
+cp "$work/none" "$work/clean.out"
+cp "$work/refused6" "$work/short.out"
+cp examples/*.out "$work"
 at_once whole_case 1 ''
 at_once two_pages 1 ''
 at_once clean 0 ''
 at_once short 2 'refused 6'
-
 # the same of ./compare, each with another answer
-rm "$copy/target/bin/compare"
 background whole_again "$copy/compare" "$whole" "$work/whole_again" &
 background lane_2 "$copy/compare" "$whole" "$work/lane_2" &
 background two_packets "$copy/compare" "$whole" "$work/two_packets" &
@@ -688,7 +649,6 @@ at_once lane_2 1 ''
 at_once two_packets 1 ''
 at_once short 2 'refused 6 1'
 # the same of ./write
-rm "$copy/target/bin/benchwrite"
 for f in nothing longest blanks_513 script_4097; do background "$f" "$copy/write" "$work/$f" & done
 wait
 cp "$work/no_packets" "$work/nothing.out"
@@ -698,77 +658,13 @@ at_once nothing 0 ''
 at_once longest 0 ''
 at_once blanks_513 2 '^refused 102 at line 2$'
 at_once script_4097 2 '^refused 3 at line 4098$'
-: >"$copy/target/bin/compare"
+# an empty program is built again
+: >"$copy/crates/compare/out/compare"
 try_command 'compare: an empty program' 1 "$work/one_byte" '' "$copy/compare" "$whole" "$work/lane_2"
-
-# files that are written anew where they stand, while ./compare waits for another run: it has read both by then
-if command -v flock >/dev/null 2>&1; then
-    cp "$whole" "$work/written"
-    cp "$work/lane_2" "$work/written_too"
-    exec 8<"$copy"
-    flock 8
-    background written "$copy/compare" "$work/written" "$work/written_too" &
-    n=0
-    until grep -q 'waiting for it' "$work/written.said" 2>/dev/null || [ $n -eq 60 ]; do sleep 1; n=$((n + 1)); done
-    cat "$work/two_packets" >"$work/written"
-    : >"$work/written_too"
-    flock -u 8
-    exec 8<&-
-    wait
-    what='compare: files that are written meanwhile'
-    background_ended written
-    judge 1 "$work/one_byte" 'note: another run proves or builds in this folder; waiting'
-else
-    left_out 'compare: files that are written meanwhile (no flock)'
-fi
-
-# What says nothing of the files is no answer: a program that prints nothing, since a cp takes its second file away; another in its place; half
-# of it.
-mkdir "$work/taking"
-# shellcheck disable=SC2016 # the other shell's
-printf '%s\n' '#!/bin/sh' 'PATH=${PATH#*:}' 'cp "$@" && rm -f "${2%/*}/second.bench"' >"$work/taking/cp"
-chmod +x "$work/taking/cp"
-try_command 'compare: a copy that is lost' 2 "$work/nothing" '^compare: the program could not read a file' \
-    env PATH="$work/taking:$PATH" "$copy/compare" "$whole" "$whole"
-cp "$copy/target/bin/compare" "$work/program"
-cp "$copy/target/bin/benchcheck" "$copy/target/bin/compare" # of no bytes: 'refused 6'
-try_command 'compare: an answer that is none' 2 "$work/nothing" '^compare: refused 6: an answer that is none' "$copy/compare" "$whole" "$whole"
-head -c 5000 "$work/program" >"$copy/target/bin/compare"
-try_command 'compare: half a program' 2 "$work/nothing" '^compare: the program ended before' "$copy/compare" "$whole" "$whole"
-cp "$work/program" "$copy/target/bin/compare"
-cp "$copy/target/bin/benchwrite" "$work/program"
-cp "$copy/target/bin/benchcheck" "$copy/target/bin/benchwrite" # of a text: 'refused 6'
-try_command 'write: an answer that is none' 2 "$work/nothing" '^write: refused 6: an answer that is none' "$copy/write" $text
-head -c 5000 "$work/program" >"$copy/target/bin/benchwrite"
-try_command 'write: half a program' 2 "$work/nothing" '^write: benchwrite ended before' "$copy/write" $text
-cp "$work/program" "$copy/target/bin/benchwrite"
-
-# an empty program is built again; who watches sees it
-: >"$copy/target/bin/benchcheck"
-if command -v script >/dev/null 2>&1; then
-    what='an empty program, at a terminal' status=0
-    script -qec "'$copy/check' '$whole'" /dev/null </dev/null >"$work/terminal" 2>"$work/err" || status=$?
-    # what was said, then what was found
-    tr -d '\r' <"$work/terminal" >"$work/seen"
-    grep -q '^\[\([0-9]*\)/\1\] benchcheck proved, [0-9]* s$' "$work/seen" || { wrong 'no line says that benchcheck is proved'; cat "$work/seen"; }
-    grep -v '^note: \|^\[' "$work/seen" >"$work/out" || true
-    judge 1 examples/whole_case.out ''
-else
-    left_out 'what is seen at a terminal (no script)'
-fi
+: >"$copy/crates/benchcheck/out/benchcheck"
 try_command 'an empty program' 1 examples/whole_case.out '' "$copy/check" "$whole"
 
-# without flock it goes on, and says so
-mkdir "$work/bin"
-(
-    IFS=:
-    for folder in $PATH; do ln -s "$folder"/* "$work/bin" 2>/dev/null || true; done
-)
-rm -f "$work/bin/flock"
-try_command 'without flock' 1 examples/whole_case.out 'note: no lock' env PATH="$work/bin" "$copy/check" "$whole"
-
 # a user who can't write the folder; root can always, so nobody is asked
-rm -rf "$copy/target/rlib"
 chmod -R a+rX "$copy"
 chmod 711 "$work"
 as=
@@ -783,17 +679,14 @@ read_only() { # WHAT STATUS OUTPUT-FILE ERROR-PATTERN COMMAND..
     # shellcheck disable=SC2086 # the words of $as
     TMPDIR=$work/tmp $as "$@" >"$work/out" 2>"$work/err" <"$whole" || status=$?
     judge "$must" "$expected" "$says"
-    ! grep -q 'an old log' "$work/err" || wrong 'showed an old log'
     chmod -R u+w "$copy"
 }
 # shellcheck disable=SC2016,SC2086 # the other shell's $1; the words of $as
 if ! $as sh -c 'cd "$1" && rt version' sh "$copy" >/dev/null 2>&1; then
     left_out "a folder that can't be written (root can write all, and nobody can't be asked: no setpriv, or no way to the kit or to $work)"
 else
-    rm -f "$copy/target/bin/edges"
-    for f in target/run.log target/log/benchcheck.out target/log/fields.out; do echo 'an old log' >"$copy/$f"; done
     user=$(${as:-env} id -un 2>/dev/null || ${as:-env} id -u)
-    cannot="user $user can't write $copy/target"
+    cannot="user $user can't write in $copy/crates"
     read_only "a folder that can't be written, proved" 1 examples/whole_case.out "note: $cannot: benchcheck is run as it was" "$copy/check" -
     read_only "compare there, proved" 1 "$work/one_byte" "note: $cannot: compare is run as it was" "$copy/compare" - "$work/lane_2"
     cp $text "$work/stave"
@@ -804,16 +697,15 @@ else
     read_only "compare: a file that can't be read" 2 "$work/nothing" "$locked" "$copy/compare" "$work/locked" -
     read_only "compare: a second file that can't be read" 2 "$work/nothing" "$locked" "$copy/compare" - "$work/locked"
     read_only "run there what is not proved" 2 "$work/nothing" "$cannot, and edges is not proved" "$copy/run" edges
-    touch "$copy/crates/report/src/lib.rt"
+    echo '// A line more.' >>"$copy/crates/report/src/lib.rt"
     read_only 'the same, changed since' 2 "$work/nothing" 'not proved there since crates/report/src.* was changed' "$copy/check" -
-    rm "$copy/target/bin/benchcheck"
+    rm "$copy/crates/benchcheck/out/benchcheck"
     read_only 'the same, the program lost' 2 "$work/nothing" "$cannot, and benchcheck is not" "$copy/check" -
-    rm "$copy/target/bin/compare"
+    rm "$copy/crates/compare/out/compare"
     read_only 'compare there, the program lost' 2 "$work/nothing" "$cannot, and compare is not" "$copy/compare" - "$whole"
-    rm -rf "$copy/target"
+    rm -rf "$copy"/crates/*/out
     read_only 'the same, never proved' 2 "$work/nothing" "$cannot, and benchcheck is not" "$copy/check" -
     read_only 'run there, never proved' 2 "$work/nothing" "$cannot, and fields is not" "$copy/run" fields
 fi
 
-echo "user: $tried trials, $failed failed"
-[ "$failed" -eq 0 ]
+ended

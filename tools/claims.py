@@ -23,10 +23,9 @@ def functions(text):
             deep += {'(': 1, ')': -1}.get(text[at], 0)
             at += 1
         parameters, rest = text[m.end():at - 1], text[at:]
-        head = rest[:re.search(r'^ *\{$', rest, re.M).start()]
-        ensures = [' '.join(e.split()) for e in re.findall(r'ensures \{ λ [^.]*\. ⌜ (.*?) ⌝ \}', head, re.S)]
-        names = re.findall(r'ensures \{ λ (\S+)\. ', head)
-        yield m.group(1), parameters, '->' in head.split('requires')[0].split('ensures')[0], list(zip(names, ensures))
+        head = rest[:re.search(r'^ *\{$|(?<!ensures)(?<!requires) \{$', rest, re.M).start()]
+        ensures = [' '.join(e.split()) for e in re.findall(r'^ *ensures (?:\w+ )?\{ (.*?) \}$', head, re.S | re.M)]
+        yield m.group(1), parameters, '->' in re.split(r'\b(?:requires|ensures|where)\b', head)[0], ensures
 
 
 def unique_laws():
@@ -43,18 +42,22 @@ def unique_laws():
     return found
 
 
-def determined(name, said, result, lent, laws):
-    """Whether a contract determines the result, if there is one, and each lent slice."""
-    part = said.split(' × ')[0].strip('( ')
-    head = part.split(' ')[0]
-    if head in laws:
-        about = said if laws[head] >= len(lent) + result else ''
-    elif '≡' in part:
-        about = part
-    else:
+def determined(ensures, result, lent, laws):
+    """Whether a contract determines the result, if there is one, and each lent slice: by equations, or by a record with a law for it."""
+    subjects = ['result'] * result + [f'{x}.new' for x in lent]
+
+    def settled(subject):
+        for said in ensures:
+            part = said.split(' × ')[0].strip('( ')
+            head = part.split(' ')[0]
+            if head in laws:
+                if laws[head] >= len(subjects) and subject in said:
+                    return True
+            elif '≡' in part and re.search(rf"(?<!length )(?<![\w'.]){re.escape(subject)}(?![\w'])", part):
+                return True
         return False
-    says_result = not result or re.search(r'(?<![\w′])%s(?![\w′])' % re.escape(name), about)
-    return bool(says_result) and all(f'now ({x} .exit)' in about for x in lent)
+
+    return bool(ensures) and all(settled(s) for s in subjects)
 
 
 def exceptions():
@@ -73,7 +76,7 @@ def contracts():
         for fn, parameters, result, ensures in functions(read(path)):
             seen += 1
             lent = re.findall(r'(\w+): &mut', parameters)
-            is_determined = any(determined(name, said, result, lent, laws) for name, said in ensures)
+            is_determined = determined(ensures, result, lent, laws)
             is_excepted = f'{crate}::{fn}' in excepted
             excepted.discard(f'{crate}::{fn}')
             if is_determined == is_excepted:

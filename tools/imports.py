@@ -10,20 +10,22 @@ import sys
 
 TOP = os.path.dirname(os.path.dirname(os.path.abspath(__file__)))
 
-GROUP = re.compile(r'^(\s*(?:ghost )?use [^{]*\.)\{(.*)\}(;?)$')
+GROUP = re.compile(r'^(\s*(?:ghost )?use [^{]*(?:\.|::))\{(.*)\}(;?)$')
+SPLIT = re.compile(r'^( *(?:ghost )?use [^{;\n]*\{)\n([^}]*?),?\n *(\};?)$', re.M)
 ALIAS = re.compile(r'^\s*(?:ghost )?use \S+ as (\w+);?$')
 ITEM = re.compile(r'^use (?:\w+::)+(\w+);$')
-PART = r"[\w\-′·]"
+PART = r"[\w\-']"
 
 
 def used(name, body):
     """whether a name stands in the body: an operator by each of its parts"""
-    parts = [p for p in name.split('_') if p] if name.startswith('_') or name.endswith('_') else [name]
+    parts = [p for p in name.split('◌') if p] if '◌' in name else [name]
     return all(re.search(rf'(?<!{PART}){re.escape(p)}(?!{PART})', body) for p in parts)
 
 
 def without_unused(text):
-    """the text without what it does not use, and the names that are gone"""
+    """the text without what it does not use, and the names that are gone; a group over several lines counts as one line"""
+    text = SPLIT.sub(lambda m: m.group(1) + ' '.join(m.group(2).split()) + m.group(3), text)
     lines = text.split('\n')
     code = (re.sub(r'(--|//) .*$', '', line) for line in lines if not re.match(r'^\s*(pub )?(ghost )?use ', line))
     body = '\n'.join(code)
@@ -50,6 +52,8 @@ def main():
     crates = os.path.join(TOP, 'crates')
     files = unused = 0
     for folder, _, names in sorted(os.walk(crates)):
+        if os.path.relpath(folder, crates).split(os.sep)[1:2] == ['out']:
+            continue  # made by rt
         for name in sorted(names):
             if not name.endswith(('.antt', '.rt')):
                 continue

@@ -93,41 +93,14 @@ kit_misfit() { # COPY MOST SIZE
     echo "the header says $(kit_counted "$3" word), $(kit_counted "$1" byte) are there, not $(kit_grouped $((at + 10 * $3)))"
 }
 
-# Sets kit, its folder; tools, its compiler and C library for this machine; emulator, empty on x86-64.
+# Sets kit, the folder of the kit.
 kit_find() {
     kit=$(cd "$(dirname "$(readlink -f "$(command -v rt)")")/.." && pwd -P)
-    tools=$kit/on/$(uname -m)/toolchain
-    [ -d "$tools" ] || tools=$kit/toolchain
-    emulator=$tools/bin/qemu-x86_64
-    [ -x "$emulator" ] || emulator=
 }
 
-# Runs an x86-64 program, on x86-64 and, through the kit's emulator, on aarch64.
-kit_start() { # FILE [ARGUMENT..]
-    kit_find
-    ${emulator:+"$emulator"} "$tools/lib/ld-linux-x86-64.so.2" --library-path "$tools/lib" "$@"
-}
-
-# Compiles C for x86-64 and links it with an archive, on a machine that is none. There are no C headers for x86-64 there, so the text goes
-# through this machine's preprocessor first; both have the same types.
-kit_x86() ( # OUT ARCHIVE FILE.c..: leaves OUT.i and objects beside OUT
-    kit_find
-    out=$1 library=$2 objects=
-    shift 2
-    for f; do
-        # shellcheck disable=SC2086 # CC may carry flags
-        ${CC:-cc} -E -P -DFOR_X86_64 -I include "$f" >"$out.i"
-        "$tools/bin/clang" --target=x86_64-unknown-linux-gnu -O2 -fPIC -w -x cpp-output -c "$out.i" -o "$out.$(basename "$f" .c).o"
-        objects="$objects $out.$(basename "$f" .c).o"
-    done
-    # shellcheck disable=SC2086 # paths of ours, in a temporary folder
-    "$kit/on/$(uname -m)/bin/rattle-link" --target x86_64-unknown-linux-gnu --toolchain "$tools" -o "$out" $objects "$library" 2>"$out.link" ||
-        { cat "$out.link" >&2; exit 1; }
-)
-
-# The folder target/ is one for all that run in a checkout, and two provers in it break each other. So each of them holds this lock, to the
-# end of the shell that took it. The repository's folder is opened for reading alone, so that one who may not write there can wait for one
-# who may. A script that holds the lock starts none that takes it.
+# Two runs of rt in one crate wait for each other, and so do these scripts: each that proves or builds holds this lock, to the end of the shell
+# that took it. The repository's folder is opened for reading alone, so that one who may not write there can wait for one who may. A script that
+# holds the lock starts none that takes it.
 kit_lock() { # FOLDER-OR-FILE: '.', or a file for a lock of another kind
     if ! command -v flock >/dev/null 2>&1 || [ ! -r "$1" ]; then
         echo "note: no lock (there is no flock, or the folder can't be read): let nothing else prove in this folder meanwhile" >&2
@@ -139,72 +112,116 @@ kit_lock() { # FOLDER-OR-FILE: '.', or a file for a lock of another kind
     flock 9 || echo "note: no lock (the folder can't be locked): let nothing else prove in this folder meanwhile" >&2
 }
 
-# Runs a command that works in target/, alone.
+# Runs a command that proves or builds, alone.
 kit_alone() { # COMMAND..
     (kit_lock .; "$@")
 }
 
-# Sets found to the libraries that a crate stands on, of this repository and of the kit, in any order.
+# Sets found to a crate and the crates of this repository that it stands on, lowest first.
 kit_below() { # NAME
-    kit_find
     found=
     kit_reach "$1"
 }
 kit_reach() { # NAME
     # shellcheck disable=SC2013 # words are wanted
-    for d in $(sed -n "s/#.*//; s/^$1: *//p" crates.txt "$kit/libs/libs.txt"); do
-        case " $found " in *" $d "*) ;; *) found="$found $d"; kit_reach "$d" ;; esac
+    for d in $(sed -n "s/#.*//; s/^$1\( [^:]*\)\{0,1\}: *//p" crates.txt); do
+        case " $found " in *" $d "*) ;; *) [ ! -d "crates/$d" ] || kit_reach "$d" ;; esac
     done
+    found="$found $1"
 }
 
-# Can this user write what rt writes?
+# The programs, in one line.
+kit_programs() {
+    for f in crates/*/src/main.rt; do f=${f#crates/}; printf ' %s' "${f%%/*}"; done
+}
+
+# A sum of all that a crate is proved and built from: the kit, crates.txt, and the texts of the crate and of those below it.
+kit_sum() { # NAME
+    kit_find
+    kit_below "$1"
+    set --
+    for d in $found; do
+        for part in src specs proofs; do [ ! -d "crates/$d/$part" ] || set -- "$@" "crates/$d/$part"; done
+    done
+    {
+        cat "$kit/KIT-ID" crates.txt
+        find "$@" -type f -print0 | LC_ALL=C sort -z | xargs -0 sha256sum
+    } | sha256sum | cut -d ' ' -f 1
+}
+
+# Copies a program to a folder, and fails unless it is the one that was proved and built from what stands here now. Beside it in out/ a file .from says
+# from what: the sum above, and the program's own.
+kit_made() { # NAME FOLDER
+    made=crates/$1/out/$1
+    [ -s "$made.from" ] && cp "$made" "$2/$1" 2>/dev/null &&
+        [ "$(cat "$made.from")" = "$(kit_sum "$1") $(sha256sum <"$2/$1")" ]
+}
+kit_mark() { # NAME SUM: it was proved and built from that just now
+    echo "$2 $(sha256sum <"crates/$1/out/$1")" >"crates/$1/out/$1.from"
+}
+
+# Can this user write what rt writes for the crates of found?
 kit_writable() {
-    mkdir -p target 2>/dev/null || return 1
-    for f in target target/* target/log/*; do
-        [ ! -e "$f" ] || [ -w "$f" ] || return 1
+    for d in $found; do
+        [ -d "crates/$d/out" ] || { [ -w "crates/$d" ] || return 1; continue; }
+        for f in "crates/$d/out" "crates/$d/out"/*; do
+            [ ! -e "$f" ] || [ -w "$f" ] || return 1
+        done
     done
 }
 
-# Passes on what rt says. Where standard error is a terminal, a line there for each crate that was proved just now.
-kit_progress() { # HOW-MANY
-    [ -t 2 ] || { cat; return; }
-    n=0
+# Passes on what rt says. A note on standard error where it waits for another; and where that is a terminal, a line for each crate that was proved just now.
+kit_progress() { # CRATE..: all that may be proved, in that order
+    now=
     while IFS= read -r line; do
         printf '%s\n' "$line"
-        case $line in 'rt: '*' proved ('*) n=$((n + 1)) ;; *) continue ;; esac
-        took=${line##*(}
-        case $took in [0-9]*' s)') line=${line#rt: }; echo "[$n/$1] ${line%% *} proved, ${took%)}" >&2 ;; esac
+        case $line in
+        'rt: waiting for another rt to finish in '*) echo "note: another rt works in ${line#rt: waiting for another rt to finish in }; waiting for it" >&2 ;;
+        'rt: '*'; waiting for it, at most half an hour, to use its work') echo "note: ${line#rt: }" >&2 ;;
+        'rt: chose --jobs '*' for '*) now=${line##* } began=$(date +%s) ;;
+        'logic=proved '*)
+            n=0
+            for c; do
+                n=$((n + 1))
+                if [ "$c" = "$now" ] && [ -t 2 ]; then echo "[$n/$#] $now proved, $(($(date +%s) - began)) s" >&2; fi
+            done
+            now=
+            ;;
+        esac
     done
 }
 
 # Proves and builds a program where that is needed, and copies it to a folder: another run may build it anew while the copy runs. Where it
-# can't, it says why. One who may not write target/ gets the program as it was proved there, if nothing that it is made of is newer.
+# can't, it says why. One who may not write out/ gets the program as it was proved there, if nothing that it is made of has changed.
 kit_program() ( # NAME FOLDER
     program=$1 to=$2
     kit_lock .
     kit_below "$program"
-    set -- "crates/$program"
-    for d in $found; do [ ! -d "crates/$d" ] || set -- "$@" "crates/$d"; done
-    if kit_writable; then
-        # rt looks at its stamps alone; what was lost of its results is made again
-        [ -s "target/bin/$program" ] || rm -f "target/stamp/$program"
-        for d in $found; do [ -e "target/rlib/$d.rlib" ] || rm -f "target/stamp/$d"; done
-        [ -f "target/stamp/$program" ] || echo "note: $program is proved and built first, which can take some minutes" >&2
-        { rt check "$program" 2>&1 </dev/null; echo $? >"$to/status"; } | kit_progress $# >"$to/log"
-        if [ "$(cat "$to/status")" != 0 ]; then
-            tail -n 20 "$to/log" >&2
-            echo "$program is not proved" >&2
-            exit 1
-        fi
-    else
-        why="user $(id -un 2>/dev/null || id -u) can't write $PWD/target"
-        newer=
-        [ ! -s "target/stamp/$program" ] || newer=$(find crates.txt "$@" -newer "target/stamp/$program" | head -n 1)
-        if [ ! -s "target/bin/$program" ] || [ ! -s "target/stamp/$program" ] || [ -n "$newer" ]; then
-            echo "$why, and $program is not proved there${newer:+ since $newer was changed}: one who can write it has to run this first" >&2
-            exit 1
-        fi
-        echo "note: $why: $program is run as it was proved last" >&2
+    why=
+    kit_writable || why="user $(id -un 2>/dev/null || id -u) can't write in $PWD/crates"
+    if kit_made "$program" "$to"; then
+        [ -z "$why" ] || echo "note: $why: $program is run as it was proved last" >&2
+        exit 0
     fi
-    cp "target/bin/$program" "$to/$program"
+    if [ -n "$why" ]; then
+        newer=
+        set -- crates.txt
+        for d in $found; do
+            for part in src specs proofs; do [ ! -d "crates/$d/$part" ] || set -- "$@" "crates/$d/$part"; done
+        done
+        [ ! -s "crates/$program/out/$program.from" ] || newer=$(find "$@" -newer "crates/$program/out/$program.from" | head -n 1)
+        echo "$why, and $program is not proved there${newer:+ since $newer was changed}: one who can write it has to run this first" >&2
+        exit 1
+    fi
+    echo "note: $program is proved and built first, which can take some minutes" >&2
+    sum=$(kit_sum "$program")
+    # rt has no command that builds a program and does not run it: here it runs on no input, and what it does then is not looked at
+    # shellcheck disable=SC2086 # names of crates
+    (cd "crates/$program" && rt run 2>&1 >/dev/null </dev/null) | kit_progress $found >"$to/log"
+    if ! grep -q "^rt: running out/$program;" "$to/log" || ! cp "crates/$program/out/$program" "$to/$program"; then
+        grep -v '^\(statements\|library\|crate\|logic\|checked\|axioms\) \|^only=\|^rt: chose ' "$to/log" | tail -n 20 >&2
+        echo "$program is not proved" >&2
+        exit 1
+    fi
+    [ "$sum" != "$(kit_sum "$program")" ] || kit_mark "$program" "$sum"
 )

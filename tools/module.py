@@ -1,15 +1,11 @@
 #!/usr/bin/env python3
 """module.py: an LLVM module that the kit made for x86-64, as text, made fit for another machine. Used by native-lib.sh.
 
-    module.py TARGET BITS LEVEL [CRATE FILE.rt] < KIT.ll > OURS.ll
+    module.py TARGET BITS LEVEL < KIT.ll > OURS.ll
 
-The kit's code is the same on every machine; what names x86-64 is the triple, the processor, how a struct is returned, and, where BITS, the bits
-of C's size_t, is 32, the length behind a slice's pointer. At the levels -Oz and -Os the compiler looks for words in the module itself. With CRATE
-and the crate's root file it also adds the C entry points of the functions marked `#[no_mangle] pub extern "C" fn` there and in the files beside
-it, as the kit writes them: a slice comes as pointer and length and is handed on as a pair, all else as it is.
+The kit's code is the same on every machine; what names x86-64 is the triple, the processor, how the stack is probed, how a struct is returned, and, where
+BITS, the bits of C's size_t, is 32, the length behind a slice's pointer. At the levels -Oz and -Os the compiler looks for words in the module itself.
 """
-import glob
-import os
 import re
 import sys
 
@@ -47,82 +43,6 @@ def answer_size(body):
     """How many bytes a function writes through its first argument, the place of its answer."""
     sizes = set(re.findall(r'call void @llvm\.memmove[\w.]*\(ptr %a0, ptr %\w+, i64 (\d+), ', body))
     return int(sizes.pop()) if len(sizes) == 1 else None
-
-
-def sources(root):
-    """The files of a crate: the path of each one's module below the crate's, and its text."""
-    for name in sorted(glob.glob(os.path.join(glob.escape(os.path.dirname(root)), '*.rt'))):
-        with open(name, encoding='utf8') as f:
-            yield '' if os.path.samefile(name, root) else os.path.basename(name)[:-3] + '::', f.read()
-
-
-def exported(source):
-    """The exported functions of a file: name, and for each parameter whether it is a slice."""
-    source = re.sub(r'//[^\n]*', '', source)
-    for m in re.finditer(r'#\[no_mangle\]\s*pub\s+extern\s+"C"\s+fn\s+(\w+)\s*\(([^)]*)\)', source):
-        kinds = [p.split(':', 1)[1].strip() for p in split(m.group(2))]
-        for k in kinds:
-            if k.startswith('&') and not re.fullmatch(r'&(mut\s+)?\[\w+\]', k):
-                fail('%s: a parameter of type %s is not provided for' % (m.group(1), k))
-        yield m.group(1), [k.startswith('&') for k in kinds]
-
-
-def entry(name, slices, m):
-    """The C entry point of one function."""
-    large = m.group(1).split()[-1] == 'void' and len(split(m.group(3))) == len(slices) + 1
-    inner = [p.split()[0] for p in split(m.group(3))]
-    result = [w for w in m.group(1).split() if w not in ('internal', 'noundef')]
-    if len(inner) != len(slices) + large:
-        fail('%s: its parameters are not those of its source' % name)
-    outer, body, handed, n = [], [], [], 0
-    pair = large and answer_size(m.group(5)) == PAIR_BYTES
-    if pair:
-        body.append('%%pair = alloca [%d x i8], align 8' % PAIR_BYTES)
-        handed.append('ptr %pair')
-    elif large:
-        outer.append('ptr noundef %a0')
-        handed.append('ptr %a0')
-    for slice, kind in zip(slices, inner[large:]):
-        at = len(outer)
-        if slice:
-            outer += ['ptr noundef %%a%d' % at, 'i64 noundef %%a%d' % (at + 1)]
-            body += ['%%p%d = alloca [16 x i8], align 8' % n, 'store ptr %%a%d, ptr %%p%d, align 8' % (at, n),
-                     '%%l%d = getelementptr i8, ptr %%p%d, i64 8' % (n, n), 'store i64 %%a%d, ptr %%l%d, align 8' % (at + 1, n)]
-            handed.append('ptr %%p%d' % n)
-            n += 1
-        else:
-            outer.append('%s noundef %%a%d' % (kind, at))
-            handed.append('%s %%a%d' % (kind, at))
-    call = 'call %s @%s(%s)' % (result[-1], m.group(2), ', '.join(handed))
-    if pair:
-        body += [call, '%%r = load %s, ptr %%pair, align 8' % PAIR, 'ret %s %%r' % PAIR]
-        result = [PAIR]
-    elif large:
-        body += [call, 'ret ptr %a0']
-        result = ['ptr']
-    elif result == ['void']:
-        body += [call, 'ret void']
-    else:
-        body += ['%r = ' + call, 'ret %s %%r' % result[-1]]
-    head = 'define %s%s @%s(%s) %s {' % ('' if result in (['void'], [PAIR]) else 'noundef ', ' '.join(result), name, ', '.join(outer), m.group(4))
-    return '\n%s\nstart:\n%s}\n' % (head, ''.join('  %s\n' % line for line in body))
-
-
-def with_entries(text, crate, root):
-    """The module, with the crate's C entry points and without the program that it was lowered for."""
-    text = FUNCTION.sub(lambda m: '' if m.group(2) == 'main' else m.group(0), text)
-    known = dict(functions(text))
-    names = []
-    for module, source in sources(root):
-        for name, slices in exported(source):
-            m = known.get('%s::%s%s' % (crate, module, name))
-            if m is None:
-                fail('%s::%s%s is not in the module' % (crate, module, name))
-            text += entry(name, slices, m)
-            names.append(name)
-    if not names:
-        fail('%s exports no function' % crate)
-    return text
 
 
 def with_struct_results(text):
@@ -186,11 +106,9 @@ def with_size(text, words):
 
 
 def main():
-    if len(sys.argv) not in (4, 6):
-        fail('usage: module.py TARGET BITS LEVEL [CRATE FILE.rt] < KIT.ll > OURS.ll')
+    if len(sys.argv) != 4:
+        fail('usage: module.py TARGET BITS LEVEL < KIT.ll > OURS.ll')
     (target, bits, level), text = sys.argv[1:4], sys.stdin.read()
-    if len(sys.argv) == 6:
-        text = with_entries(text, sys.argv[4], sys.argv[5])
     text = with_size(text, {'-Oz': ' minsize optsize', '-Os': ' optsize'}.get(level, ''))
     if not target.startswith('x86_64'):
         text = with_struct_results(text)
@@ -198,7 +116,7 @@ def main():
             text = with_narrow_lengths(with_pairs_in_memory(text))
         text = re.sub(r'^target datalayout.*\n', '', text, flags=re.M)
         text = re.sub(r'^target triple = .*', 'target triple = "%s"' % target, text, flags=re.M)
-        text = re.sub(r' "(target-cpu|tune-cpu|target-features)"="[^"]*"', '', text)
+        text = re.sub(r' "(target-cpu|tune-cpu|target-features|probe-stack|stack-probe-size)"="[^"]*"', '', text)
     sys.stdout.write(text)
 
 

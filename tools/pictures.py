@@ -45,26 +45,28 @@ def clauses(source, name):
 
 
 WORDS = {
-    'tdtId': '0xF0', 'cdwId': '0xF8', 'tdhId': '0xE8', 'ddw0Id': '0xE4', 'ihwId': '0xE0',
+    'tdt_id': '0xF0', 'cdw_id': '0xF8', 'tdh_id': '0xE8', 'ddw0_id': '0xE4', 'ihw_id': '0xE0',
 }
 
 
 def condition(c):
     """A condition in 01's words, and its opposite ('' for an id: the rows below it)."""
-    if c[0] == 'eqb' and c[1] == ['idOf', 'w']:
+    if len(c) == 3 and c[1] == '==':
+        c = ['eqb', c[0], c[2]]
+    if c[0] == 'eqb' and c[1] == ['id_of', 'w']:
         return WORDS[c[2]], ''
-    if c[0] == 'isDataId':
+    if c[0] == 'is_data_id':
         return 'data id', 'other'
-    if c[0] == 'packetDone':
+    if c[0] == 'packet_done':
         return 'packet done', 'not done'
-    if c[0] == 'eqb' and c[1] == ['noData', 'w'] and c[2] == '0':
+    if c[0] == 'eqb' and c[1] == ['no_data', 'w'] and c[2] == '0':
         return 'bit 13 clear', 'bit 13 set'
     raise SystemExit(f'pictures: a condition that is not known: {c}')
 
 
 def arrows(source):
     """(state, conditions, kind, guessed, next) for each row of the table."""
-    helpers = {n: clauses(source, n)[0] for n in ('afterTdh', 'inData', 'inThree')}
+    helpers = {n: clauses(source, n)[0] for n in ('after_tdh', 'in_data', 'in_three')}
     out = []
 
     def put(e, env):
@@ -97,7 +99,7 @@ def arrows(source):
                     more = ['other'] + more
                 out.append((state, more, e[1], e[0] == 'guess', target))
 
-    for names, body in clauses(source, 'advanceOf'):
+    for names, body in clauses(source, 'advance_of'):
         rows(names[0], body, [])
     return out
 
@@ -235,7 +237,7 @@ def crates_of(text):
         line = line.split('#')[0].strip()
         if line:
             name, rest = line.split(':')
-            deps[name.strip()] = rest.split()
+            deps[name.split()[0]] = rest.split()
     others = sorted({d for ds in deps.values() for d in ds if d not in deps})
     return {n: [d for d in ds if d in deps] for n, ds in deps.items()}, others
 

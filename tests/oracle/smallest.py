@@ -142,16 +142,16 @@ def question(call):
 def run_ours(singles, folder):
     """Our side of single functions: single.rattle, over the crates as they are, interpreted and compiled. None: as said; else what is wrong."""
     work = os.path.join(folder, 'single')
-    os.makedirs(os.path.join(work, 'crates', 'single', 'src'))
-    for name in os.listdir(os.path.join(ROOT, 'crates')):
-        os.symlink(os.path.join(ROOT, 'crates', name), os.path.join(work, 'crates', name))
-    with open(os.path.join(ROOT, 'crates.txt')) as f, open(os.path.join(work, 'crates.txt'), 'w') as out:
-        out.write(f.read() + 'single: words records packet stored validators tdh_validator io\n')
     program = os.path.join(work, 'crates', 'single')
+    os.makedirs(os.path.join(program, 'src'))
+    for name in os.listdir(os.path.join(ROOT, 'crates')):
+        for part in ('src', 'specs'):
+            if os.path.isdir(os.path.join(ROOT, 'crates', name, part)):
+                shutil.copytree(os.path.join(ROOT, 'crates', name, part), os.path.join(work, 'crates', name, part))
+    with open(os.path.join(ROOT, 'crates.txt')) as f, open(os.path.join(work, 'crates.txt'), 'w') as out:
+        out.write(f.read() + 'single: words records packet stored validators tdh_validator input\n')
     shutil.copy(os.path.join(HERE, 'single.rattle'), os.path.join(program, 'src', 'main.rt'))
-    with open(os.path.join(program, 'stdin'), 'wb') as f:
-        f.write(b''.join(question(call) for i in singles for call in i.calls))
-    with open(os.path.join(program, 'stdout'), 'w') as f:
-        f.write(''.join(call.said['we'] + '\n' for i in singles for call in i.calls))
-    done = subprocess.run(['rt', 'try', 'single'], cwd=work, text=True, stdout=subprocess.PIPE, stderr=subprocess.STDOUT)
-    return None if done.returncode == 0 else done.stdout
+    asked = b''.join(question(call) for i in singles for call in i.calls)
+    said = ''.join(call.said['we'] + '\n' for i in singles for call in i.calls).encode()
+    done = subprocess.run(['rt', 'try'], cwd=program, input=asked, stdout=subprocess.PIPE, stderr=subprocess.PIPE)
+    return None if done.returncode == 0 and done.stdout == said else (done.stdout + done.stderr).decode(errors='replace')
