@@ -68,7 +68,7 @@ def judged(crate, edit, said):
         return False, f'REFUSED BY A LIMIT of the prover, which is no verdict ({at or "nowhere"})'
     if said.startswith('refused, as it must be (only because a proof file names'):
         return False, f'REFUSED FOR ITS SHAPE: a proof names what it took away, and no fact fails ({at or "nowhere"})'
-    if not any(f'::{at}'.replace('-', '_').endswith(f'::{w}'.replace('-', '_')) for w in wanted):
+    if at.replace('-', '_') not in [w.replace('-', '_') for w in wanted]:
         return False, f"REFUSED ELSEWHERE: first at {at or 'nothing that has a name'}; its line 'refused:' says: {' '.join(wanted) or 'nothing'}"
     return True, f'refused at {at}, as it must be'
 
