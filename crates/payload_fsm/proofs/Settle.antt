@@ -21,8 +21,8 @@ use Rattle.payload_fsm.specs.declared.ItsPayloadWord.TheVariants as K
 use Rattle.payload_fsm.specs.Step.{taken, guess, after_tdh, in_data, in_three, advance_of, next_state}
 use Rattle.payload_fsm.specs.Settle.{DataClear, TdtDone, TdhClear, Marker, short_frame, state_after}
 use Rattle.payload_fsm.proofs.Rows.{choice}
-use Rattle.payload_fsm.proofs.Onward.{state_of, stays, data_goes, tdh_goes, Closes}
-pub use Rattle.payload_fsm.proofs.Onward.{AmongData}
+use Rattle.payload_fsm.proofs.Onward.{state_of, stays, data_goes, tdh_goes}
+pub use Rattle.payload_fsm.proofs.Onward.{AmongData, Closes}
 unfoldable pub use Rattle.payload_fsm.proofs.Marking.{marker_closes}
 
 -- There a TDT with packet done is taken as TDT, and leads to the three-way state.
