@@ -6,8 +6,8 @@
 
 A wrong program is an edit crates/CRATE/must-fail/NAME.edit. Its line 'refused:' names the functions whose own proofs must fail, or the law that must where no
 function's does; '-' and '_' are alike there. rt says of a refused edit where the first proof fails: that function, or law, must be one of these. One without
-such a line does not count, nor one that is refused elsewhere, one that is refused only because a proof names what the edit took away (what is to fail is a
-fact), or one on which the prover gives up at a limit of its own. The last line is 'N refused, M not'. Exit status 1 where one was not.
+such a line does not count, nor one that is refused elsewhere, nor one of which rt says that it is refused only because a proof names what the edit took away
+(what is to fail is a fact), or only by a limit of the prover. The last line is 'N refused, M not'. Exit status 1 where one was not.
 """
 import glob
 import os
