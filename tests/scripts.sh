@@ -226,29 +226,8 @@ grep -q '^fn toy_codes::code: no' "$work/said" || { wrong 'does not name the fun
 change '^    1074' '    1073'
 try_command 'the same, mended' 1 "$work/changed.out" '' "$toy/check" "$work/wrong"
 
-# a user who can't write the folder; root can always, so nobody is asked
-chmod -R a+rX "$toy"
-chmod 711 "$work"
-as=
-if [ "$(id -u)" -eq 0 ]; then as='setpriv --reuid=65534 --regid=65534 --clear-groups'; fi
-mkdir "$work/tmp"
-chmod 777 "$work/tmp"
-read_only() { # WHAT STATUS OUTPUT-FILE ERROR-PATTERN COMMAND..
-    chmod -R a-w "$toy"
-    what=$1 must=$2 expected=$3 says=$4
-    shift 4
-    status=0
-    # shellcheck disable=SC2086 # the words of $as
-    TMPDIR=$work/tmp $as "$@" >"$work/out" 2>"$work/err" <"$work/wrong" || status=$?
-    judge "$must" "$expected" "$says"
-    chmod -R u+w "$toy"
-}
-# shellcheck disable=SC2016,SC2086 # the other shell's $1; the words of $as
-if ! $as sh -c 'cd "$1" && rt version' sh "$toy" >/dev/null 2>&1; then
-    left_out "a folder that can't be written (root can write all, and nobody can't be asked: no setpriv, or no way to the kit or to $work)"
-else
-    user=$(${as:-env} id -un 2>/dev/null || ${as:-env} id -u)
-    cannot="user $user can't write in $toy/crates"
+# a user who can't write the folder
+if may_read_only "$toy" "$work/wrong"; then
     read_only "a folder that can't be written, proved" 1 "$work/changed.out" "note: $cannot: benchcheck is run as it was" "$toy/check" -
     read_only "compare there, proved" 1 "$work/one_byte" "note: $cannot: compare is run as it was" "$toy/compare" - "$work/clean"
     read_only "write there, proved" 0 "$work/no_packets" "note: $cannot: benchwrite is run as it was" "$toy/write" "$work/empty"

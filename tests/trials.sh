@@ -39,6 +39,32 @@ background_ended() { # NAME: for judge
     mv "$work/$1.printed" "$work/out"
     mv "$work/$1.said" "$work/err"
 }
+may_read_only() { # FOLDER INPUT: for read_only. Root can write always, so nobody is asked. Sets cannot, what the scripts say; fails where it can't be tried
+    folder=$1 input=$2
+    chmod -R a+rX "$folder"
+    chmod 711 "$work"
+    as=
+    if [ "$(id -u)" -eq 0 ]; then as='setpriv --reuid=65534 --regid=65534 --clear-groups'; fi
+    mkdir "$work/tmp"
+    chmod 777 "$work/tmp"
+    # shellcheck disable=SC2016,SC2086 # the other shell's $1; the words of $as
+    $as sh -c 'cd "$1" && rt version' sh "$folder" >/dev/null 2>&1 || {
+        left_out "a folder that can't be written (root can write all, and nobody can't be asked: no setpriv, or no way to the kit or to $work)"
+        return 1
+    }
+    # shellcheck disable=SC2034,SC2086 # cannot is for who asks; the words of $as
+    cannot="user $(${as:-env} id -un 2>/dev/null || ${as:-env} id -u) can't write in $folder/crates"
+}
+read_only() { # WHAT STATUS OUTPUT-FILE ERROR-PATTERN COMMAND..: with the input, in the folder, which that user can't write
+    chmod -R a-w "$folder"
+    what=$1 must=$2 expected=$3 says=$4
+    shift 4
+    status=0
+    # shellcheck disable=SC2086 # the words of $as
+    TMPDIR=$work/tmp $as "$@" >"$work/out" 2>"$work/err" <"$input" || status=$?
+    judge "$must" "$expected" "$says"
+    chmod -R u+w "$folder"
+}
 ended() { # the last line, and whether all went well
     echo "$trials: $tried trials, $failed failed"
     [ "$failed" -eq 0 ]

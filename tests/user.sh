@@ -664,29 +664,8 @@ try_command 'compare: an empty program' 1 "$work/one_byte" '' "$copy/compare" "$
 : >"$copy/crates/benchcheck/out/benchcheck"
 try_command 'an empty program' 1 examples/whole_case.out '' "$copy/check" "$whole"
 
-# a user who can't write the folder; root can always, so nobody is asked
-chmod -R a+rX "$copy"
-chmod 711 "$work"
-as=
-if [ "$(id -u)" -eq 0 ]; then as='setpriv --reuid=65534 --regid=65534 --clear-groups'; fi
-mkdir "$work/tmp"
-chmod 777 "$work/tmp"
-read_only() { # WHAT STATUS OUTPUT-FILE ERROR-PATTERN COMMAND..
-    chmod -R a-w "$copy"
-    what=$1 must=$2 expected=$3 says=$4
-    shift 4
-    status=0
-    # shellcheck disable=SC2086 # the words of $as
-    TMPDIR=$work/tmp $as "$@" >"$work/out" 2>"$work/err" <"$whole" || status=$?
-    judge "$must" "$expected" "$says"
-    chmod -R u+w "$copy"
-}
-# shellcheck disable=SC2016,SC2086 # the other shell's $1; the words of $as
-if ! $as sh -c 'cd "$1" && rt version' sh "$copy" >/dev/null 2>&1; then
-    left_out "a folder that can't be written (root can write all, and nobody can't be asked: no setpriv, or no way to the kit or to $work)"
-else
-    user=$(${as:-env} id -un 2>/dev/null || ${as:-env} id -u)
-    cannot="user $user can't write in $copy/crates"
+# a user who can't write the folder
+if may_read_only "$copy" "$whole"; then
     read_only "a folder that can't be written, proved" 1 examples/whole_case.out "note: $cannot: benchcheck is run as it was" "$copy/check" -
     read_only "compare there, proved" 1 "$work/one_byte" "note: $cannot: compare is run as it was" "$copy/compare" - "$work/lane_2"
     cp $text "$work/stave"
