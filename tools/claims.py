@@ -16,7 +16,7 @@ def read(path):
 
 
 def functions(text):
-    """The public functions of a source: name, parameters, whether it has a result, and its contract's `ensures`."""
+    """The public functions of a source: name, parameters, the type of its result or '', and its contract's `ensures`."""
     for m in re.finditer(r'^ *pub (?:extern "C" )?fn (\w+)(?:<[^>]*>)?\(', text, re.M):
         deep, at = 1, m.end()
         while deep:
@@ -25,7 +25,8 @@ def functions(text):
         parameters, rest = text[m.end():at - 1], text[at:]
         head = rest[:re.search(r'^ *\{$|(?<!ensures)(?<!requires) \{$', rest, re.M).start()]
         ensures = [' '.join(e.split()) for e in re.findall(r'^ *ensures (?:\w+ )?\{ (.*?) \}$', head, re.S | re.M)]
-        yield m.group(1), parameters, '->' in re.split(r'\b(?:requires|ensures|where)\b', head)[0], ensures
+        result = re.split(r'\b(?:requires|ensures|where)\b', head)[0].partition('->')[2].strip()
+        yield m.group(1), parameters, result, ensures
 
 
 def unique_laws():
@@ -38,17 +39,19 @@ def unique_laws():
         parts = law.split('→')
         for name in set(re.findall(r'\b([A-Z]\w*)\b', law)):
             if sum(p.strip().startswith(name + ' ') for p in parts[:-1]) == 2:
-                found[name] = parts[-1].count('≡')
+                found[name] = max(found.get(name, 0), parts[-1].count('≡'))
     return found
 
 
 def determined(ensures, result, lent, laws):
     """Whether a contract determines the result, if there is one, and each lent slice: by equations, or by a record with a law for it."""
-    subjects = ['result'] * result + [f'{x}.new' for x in lent]
+    subjects = ['result'] * bool(result) + [f'{x}.new' for x in lent]
 
     def settled(subject):
         for said in ensures:
             part = said.split(' × ')[0].strip('( ')
+            if result != 'Result<(), Refusal>':  # the number of such a result tells which it is (refusals/proofs/Numbers.antt, `same_code`), and of no other
+                part = part.replace('code result', '')
             head = part.split(' ')[0]
             if head in laws:
                 if laws[head] >= len(subjects) and subject in said:

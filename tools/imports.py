@@ -4,6 +4,7 @@
     tools/imports.py          tells
     tools/imports.py --fix    takes them out
 """
+import glob
 import os
 import re
 import sys
@@ -17,8 +18,23 @@ ITEM = re.compile(r'^use (?:\w+::)+(\w+);$')
 PART = r"[\w\-']"
 
 
+def members():
+    """the traits of crates/, each with its methods and constants: a trait is brought in for one of them"""
+    found = {}
+    for path in glob.glob(os.path.join(TOP, 'crates', '*', 'src', '*.rt')):
+        with open(path, encoding='utf8') as f:
+            for trait, body in re.findall(r'^pub trait (\w+) \{\n(.*?)^\}', f.read(), re.M | re.S):
+                found[trait] = re.findall(r'^    (?:fn|const) (\w+)', body, re.M)
+    return found
+
+
+MEMBERS = members()
+
+
 def used(name, body):
-    """whether a name stands in the body: an operator by each of its parts"""
+    """whether a name stands in the body: an operator by each of its parts, a trait by itself or by one of its members"""
+    if any(re.search(rf'\.\s*{m}\(|::{m}\b', body) for m in MEMBERS.get(name, ())):
+        return True
     parts = [p for p in name.split('◌') if p] if '◌' in name else [name]
     return all(re.search(rf'(?<!{PART}){re.escape(p)}(?!{PART})', body) for p in parts)
 

@@ -289,8 +289,9 @@ assert 2147483647 * 3564 == 7653631717908 and 1205097 * 3564 + 1587 == 429496729
 
 
 def main():
-    told = int(re.search(r"const FILES: u8 = (\d+);", made.read("crates/edges/src/main.rt").decode()).group(1))
-    assert told == len(CASES), "crates/edges/src/main.rt opens %d files, and there are %d cases" % (told, len(CASES))
+    named = re.search(r"const NAMES: \[&str; \d+\] = \[(.*?)\];", made.read("crates/edges/src/main.rt").decode(), re.S).group(1)
+    told = re.findall(r'"(\w+)"', named)
+    assert told == ["c%02d" % i for i in range(len(CASES))], "crates/edges/src/main.rt opens %d files, and there are %d cases" % (len(told), len(CASES))
     files = {"edges/data/c%02d" % i: content for i, (_, content, _) in enumerate(CASES)}
     files["edges/stdout"] = ("".join("c%02d\n%s" % (i, lines) for i, (_, _, lines) in enumerate(CASES)) + CALLS).encode()
     made.main(files)

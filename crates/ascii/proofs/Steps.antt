@@ -39,7 +39,7 @@ module _ {State : Type 0} {p : Printer State} {s next : State} {d d' : List ℕ}
       let fits = over_fits (step_in p s (length d)).text d (sym (ap length put.buffer_is) ∙ kept) in
       omega (arith, put.count)
 
-  in_room_lem : p.most ≤ length d → Prints (p.step_of s) d next n d'
+  pub in_room_lem : p.most ≤ length d → Prints (p.step_of s) d next n d'
   in_room_lem h = rw (le-ltb (length d) p.most h) at f.prints
 
 module _ {State : Type 0} {p : Printer State} {rest : State → List ℕ} {left : State → ℕ} (laws : Laws p rest left) where

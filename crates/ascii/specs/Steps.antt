@@ -1,6 +1,7 @@
 -- Printing by steps, whatever is printed: each step puts a text at the front of a buffer, and the next goes on from the state after it.
 -- Assumes nothing.
-use Rattle.std.specs.Prelude.{ℕ, suc, ◌≤◌, ◌≡◌, Bool, true, false, cond, List, [], ◌++◌, ltb, length, take}
+use Rattle.std.specs.Prelude.{ℕ, suc, ◌<◌, ◌≤◌, ◌≡◌, Bool, true, false, cond, List, [], ◌++◌, ltb, length, take, Option}
+use Rattle.std.specs.Io.KnownBytes.{Appends}
 use Rattle.ascii.specs.Text.{Puts}
 
 -- A text, and the state after it.
@@ -39,3 +40,15 @@ pub data Steps {State : Type 0} (p : Printer State) : State → ℕ → List ℕ
   step : {s next : State} {buffer after : List ℕ} {n many : ℕ} {rest : List ℕ} → p.is_done s ≡ false → p.most ≤ length buffer
       → StepPost p s buffer next n after → Steps p next many rest
       → Steps p s (suc many) (take n after ++ rest)
+
+-- Where it is said how many steps are left: a step leaves fewer.
+abbrev pub FewerLeft : {State : Type 0} → Printer State → (State → ℕ) → Type 0
+FewerLeft {State} p left = (s : State) → p.Good s → p.is_done s ≡ false → left (p.step_of s).next < left s
+
+-- Bytes that are gathered before they are written.
+abbrev pub gathered : ℕ
+gathered = 1000
+
+-- What is known of a writer's bytes when all is printed to it: they grew by what some steps print, one after the other, from a state to the end.
+abbrev pub AllPrinted : {State : Type 0} → Printer State → State → Option (List ℕ) → Option (List ℕ) → Type 0
+AllPrinted p s before after = (n : ℕ) × ((out : List ℕ) × (Steps p s n out × Appends before after out))

@@ -1,5 +1,8 @@
 // Texts in ASCII at the front of a lent buffer: bytes, numbers in decimal, lines. A text that has no room is not begun.
+// By hand, not by `write!`: `put`, `put_number`, `put_named` and `put_line` and what they say of a buffer (docs/READING.md) may not change.
 #![tactic(auto)]
+
+pub mod printing;
 
 ghost use Rattle.std.specs.Prelude.{◌∷◌, ◌+◌, ◌*◌, ◌≤◌, length};
 ghost use Rattle.ascii.specs.Text.{space, decimal, numeral, named, spaced, line, most_number, most_named, most_line, in_room, Puts};
@@ -26,12 +29,8 @@ fn copy(out: &mut [u8], text: &[u8]) -> usize
     requires { length text.now ≤ length out.old }
     ensures { Puts text.now out.old result out.new }
 {
-    let mut i: usize = 0;
-    while i < text.len() {
-        out[i] = text[i];
-        i = i + 1;
-    }
-    i
+    out[..text.len()].copy_from_slice(text);
+    text.len()
 }
 
 // The digits of a number.
@@ -91,10 +90,8 @@ fn put_numbers(out: &mut [u8], numbers: &[u64]) -> usize
     ensures upper_bound { result ≤ most_number * length numbers.now }
 {
     let mut used: usize = 0;
-    let mut i: usize = 0;
-    while i < numbers.len() {
-        used = used + put_spaced(&mut out[used..], numbers[i]);
-        i = i + 1;
+    for &n in numbers {
+        used += put_spaced(&mut out[used..], n);
     }
     used
 }

@@ -4,7 +4,7 @@
 use Prim.Native.Nat.{ℕ, zero, suc, ◌+◌, ◌-◌, ◌≤◌, ◌<◌}
 use mathlib.Core.Path.{◌≡◌, refl, sym, ap, subst, ◌∙◌}
 use mathlib.Core.Bool.{Bool, true, false, cond}
-use mathlib.Core.Logic.{⊎_elim}
+use Rattle.std.proofs.Common.{⊎_elim, Some, None}
 use mathlib.Core.List.{List, [], ◌∷◌, ◌++◌}
 use native.Mathlib.Nat.{eq-or-lt_of_le, add-zero, add-suc, sub-zero}
 use native.Mathlib.Numerals.{add-one}
@@ -20,13 +20,13 @@ use Rattle.bench_file.specs.declared.Found.TheVariants as F
 use Rattle.bench_file.specs.File.{packets, words, packet_place, packet_at, count_at, word_place, bytes_at, words_before}
 use Rattle.bench_file.specs.File.{misfit, packet_refusal, first_refusal, check_of}
 use Rattle.bench_file.specs.Items.{Item, packet, word, word_items, packet_items, items, items_from}
-use Rattle.bench_file.specs.Reader.{reader_at, has_packet, has_word, word_found, past_packet, past_word, next_found}
+use Rattle.bench_file.specs.Reader.{reader_at, has_packet, has_word, word_found, past_packet, past_word, as_packet, as_word, next_found}
 use Rattle.bench_file.specs.Reader.{Gives, end, packet_first, then_word, Sound, Place}
 use Rattle.bench_file.proofs.Checking.{Fitting, fitting, one_more}
 use Rattle.bench_file.proofs.Finding.{packet_in_lem, packet_past, packet_found_lem, packet_end, past_packet_lem, word_in, word_found_lem, past_word_lem}
 
 -- While words are left, a word is asked for.
-pub asks_word : (file : List ℕ) (i n left : ℕ) → next_found file i n (suc left) ≡ word_found file n
+pub asks_word : (file : List ℕ) (i n left : ℕ) → next_found file i n (suc left) ≡ as_word (word_found file n)
 asks_word file i n left = simp (ne_eqb (suc left) 0 (λ q. omega arith))
 
 -- What a packet and a word that the reader gives mean for what is to come, at a place that it comes to.
@@ -118,11 +118,11 @@ module _ {file : List ℕ} (s : Sound file) where
       let w = s.whole in
       packet_in_lem file i h (omega arith)
 
-  next_word : (i n left : ℕ) → n < words file → next_found file i n (suc left) ≡ F.Word (word_place file n)
-  next_word i n left h = asks_word file i n left ∙ word_found_lem file n (word_here n h)
+  next_word : (i n left : ℕ) → n < words file → next_found file i n (suc left) ≡ Some (F.Word (word_place file n))
+  next_word i n left h = asks_word file i n left ∙ ap as_word (word_found_lem file n (word_here n h))
 
-  next_packet : (i n : ℕ) → i < packets file → next_found file i n 0 ≡ F.Packet (packet_at file i) (count_at file i)
-  next_packet i n h = packet_found_lem file i (packet_here i h)
+  next_packet : (i n : ℕ) → i < packets file → next_found file i n 0 ≡ Some (F.Packet (packet_at file i) (count_at file i))
+  next_packet i n h = ap as_packet (packet_found_lem file i (packet_here i h))
 
   -- What a place that the reader comes to is at.
   pub reached : {i n left : ℕ} → Place file i n left → n + left ≤ words file
@@ -169,11 +169,10 @@ module _ {file : List ℕ} (s : Sound file) where
 
   -- What the reader's answer means for what is to come: a packet, a word, the end.
   pub packet_given : {i n left count : ℕ} {p : Packet} → Place file i n left
-      → next_found file i n left ≡ F.Packet p count → PacketGiven file i n left p count
+      → next_found file i n left ≡ Some (F.Packet p count) → PacketGiven file i n left p count
   packet_given {i} {n} {left = zero} {count} {p} place e =
       ⊎_elim
-      (λ (h : i ≡ packets file). let z : ◌≡◌ {A = ℕ} 0 1 = cc (packet_end file i (packet_past file i (omega arith))) in
-      absurd (omega arith))
+      (λ (h : i ≡ packets file). absurd (cc (ap as_packet (packet_end file i (packet_past file i (omega arith))))))
       (λ (h : i < packets file).
       let given = next_packet i n h in
       let same : packet_at file i ≡ p = cc in
@@ -183,16 +182,14 @@ module _ {file : List ℕ} (s : Sound file) where
   packet_given {i} {n} {left = suc left} place e =
       let most = reached place in
       let given = next_word i n left (omega arith) in
-      let z : ◌≡◌ {A = ℕ} 0 1 = cc in
-      absurd (omega arith)
+      absurd (cc)
 
   pub word_given : {i n left at : ℕ} → Place file i n left
-      → next_found file i n left ≡ F.Word at → WordGiven file i n left at
+      → next_found file i n left ≡ Some (F.Word at) → WordGiven file i n left at
   word_given {i} {n} {left = zero} place e =
       ⊎_elim
-      (λ (h : i ≡ packets file). let z : ◌≡◌ {A = ℕ} 0 1 = cc (packet_end file i (packet_past file i (omega arith))) in
-      absurd (omega arith))
-      (λ (h : i < packets file). let z : ◌≡◌ {A = ℕ} 0 1 = cc (next_packet i n h) in absurd (omega arith))
+      (λ (h : i ≡ packets file). absurd (cc (ap as_packet (packet_end file i (packet_past file i (omega arith))))))
+      (λ (h : i < packets file). absurd (cc (next_packet i n h)))
       (eq-or-lt_of_le place.within)
   word_given {i} {n} {left = suc left} {at} place e =
       let most = reached place in
@@ -200,17 +197,16 @@ module _ {file : List ℕ} (s : Sound file) where
       let same : word_place file n ≡ at = cc in
       rw (← same) (at_word i n left place)
 
-  pub end_given : {i n left : ℕ} → Place file i n left → next_found file i n left ≡ F.End → items_from file i n left ≡ []
+  pub end_given : {i n left : ℕ} → Place file i n left → next_found file i n left ≡ None → items_from file i n left ≡ []
   end_given {i} {n} {left = zero} place e =
       ⊎_elim
       (λ (h : i ≡ packets file). at_end i n h)
-      (λ (h : i < packets file). let z : ◌≡◌ {A = ℕ} 0 1 = cc (next_packet i n h) in absurd (omega arith))
+      (λ (h : i < packets file). absurd (cc (next_packet i n h)))
       (eq-or-lt_of_le place.within)
   end_given {i} {n} {left = suc left} place e =
       let most = reached place in
       let given = next_word i n left (omega arith) in
-      let z : ◌≡◌ {A = ℕ} 0 1 = cc in
-      absurd (omega arith)
+      absurd (cc)
 
 -- The place at the start, and that all is to come there.
 pub at_start : (file : List ℕ) → Place file 0 0 0

@@ -1,6 +1,6 @@
 -- 01, "Bench file": "a reader that holds the file's bytes and its place gives the next packet or word, each packet before its words, then the end".
 -- Assumes nothing.
-use Rattle.std.specs.Prelude.{ℕ, suc, ◌+◌, ◌≤◌, ◌<◌, ◌≡◌, Bool, true, cond, ◌&&◌, List, [], ◌∷◌, leb, ltb, eqb, length}
+use Rattle.std.specs.Prelude.{ℕ, suc, ◌+◌, ◌≤◌, ◌<◌, ◌≡◌, Bool, true, cond, ◌&&◌, List, [], ◌∷◌, Option, Some, None, leb, ltb, eqb, length}
 use Rattle.std.specs.Borrow.{Bor}
 use Rattle.words.specs.Word.{word_bytes}
 use Rattle.words.specs.LittleEndian.{number_at}
@@ -27,12 +27,12 @@ has_packet file i = ltb i (packets file) && leb (packet_place i + packet_bytes) 
 abbrev pub has_word : List ℕ → ℕ → Bool
 has_word file n = ltb n (words file) && leb (word_place file n + word_bytes) (length file)
 
--- What is found there: the packet with its word count, the word as its place; where there is none, the end.
-unfoldable pub packet_found : List ℕ → ℕ → Found
-packet_found file i = cond (has_packet file i) (F.Packet (packet_at file i) (count_at file i)) F.End
+-- What is found there: the packet with its word count, the word as its place; where there is none, nothing.
+unfoldable pub packet_found : List ℕ → ℕ → Option (Packet × ℕ)
+packet_found file i = cond (has_packet file i) (Some (packet_at file i, count_at file i)) None
 
-unfoldable pub word_found : List ℕ → ℕ → Found
-word_found file n = cond (has_word file n) (F.Word (word_place file n)) F.End
+unfoldable pub word_found : List ℕ → ℕ → Option ℕ
+word_found file n = cond (has_word file n) (Some (word_place file n)) None
 
 -- The cursor past it: one on, and at the end it stays.
 unfoldable pub past_packet : List ℕ → ℕ → ℕ
@@ -42,10 +42,10 @@ unfoldable pub past_word : List ℕ → ℕ → ℕ
 past_word file n = cond (has_word file n) (n + 1) n
 
 -- What a reader gives next, and the reader past it.
-abbrev pub next_packet : FileReader → Found
+abbrev pub next_packet : FileReader → Option (Packet × ℕ)
 next_packet r = packet_found r.bytes.now r.packet
 
-abbrev pub next_word : FileReader → Found
+abbrev pub next_word : FileReader → Option ℕ
 next_word r = word_found r.bytes.now r.word
 
 abbrev pub after_packet : FileReader → FileReader
@@ -57,10 +57,10 @@ after_word r = reader_at r.bytes r.packet (past_word r.bytes.now r.word)
 -- "gives the next packet or word, each packet before its words, then the end": all that a reader gives from its place on, where so many words of the
 -- packet at hand are left. Each is given by the reader past the one before; a packet's words are asked for after it, as many as it says.
 pub data Gives : FileReader → ℕ → List Item → Type 0 where
-  end : {r : FileReader} → next_packet r ≡ F.End → Gives r 0 []
-  packet_first : {r : FileReader} {p : Packet} {count : ℕ} {rest : List Item} → next_packet r ≡ F.Packet p count → Gives (after_packet r) count rest
+  end : {r : FileReader} → next_packet r ≡ None → Gives r 0 []
+  packet_first : {r : FileReader} {p : Packet} {count : ℕ} {rest : List Item} → next_packet r ≡ Some (p, count) → Gives (after_packet r) count rest
       → Gives r 0 (packet p count ∷ rest)
-  then_word : {r : FileReader} {left at : ℕ} {rest : List Item} → next_word r ≡ F.Word at → Gives (after_word r) left rest
+  then_word : {r : FileReader} {left at : ℕ} {rest : List Item} → next_word r ≡ Some at → Gives (after_word r) left rest
       → Gives r (suc left) (word at (bytes_at r.bytes.now at) ∷ rest)
 
 -- "Where an answer is an enum, a definition gives this paper's number and values for each of its cases": 0 the end, 1 a packet, 2 a word; and what is
@@ -69,10 +69,19 @@ pub record Given : Type 0 where
   pub number : ℕ
   pub items : List Item
 
-abbrev pub given_of : List ℕ → Found → Given
-given_of file F.End = record { number = 0; items = [] }
-given_of file (F.Packet p count) = record { number = 1; items = packet p count ∷ [] }
-given_of file (F.Word at) = record { number = 2; items = word at (bytes_at file at) ∷ [] }
+abbrev pub given_of : List ℕ → Option Found → Given
+given_of file None = record { number = 0; items = [] }
+given_of file (Some (F.Packet p count)) = record { number = 1; items = packet p count ∷ [] }
+given_of file (Some (F.Word at)) = record { number = 2; items = word at (bytes_at file at) ∷ [] }
+
+-- A packet and a word as what is found of either kind.
+abbrev pub as_packet : Option (Packet × ℕ) → Option Found
+as_packet None = None
+as_packet (Some found) = Some (F.Packet found.0 found.1)
+
+abbrev pub as_word : Option ℕ → Option Found
+as_word None = None
+as_word (Some at) = Some (F.Word at)
 
 -- What is to be given: packet i, word n, or nothing.
 abbrev pub packet_here : List ℕ → ℕ → Given
@@ -85,19 +94,19 @@ word_here file n =
     cond (has_word file n) (record { number = 2; items = word (word_place file n) (bytes_at file (word_place file n)) ∷ [] })
     (record { number = 0; items = [] })
 
-pub record NextPacketPost (file : List ℕ) (i : ℕ) (r : Found) : Type 0 where
+pub record NextPacketPost (file : List ℕ) (i : ℕ) (r : Option (Packet × ℕ)) : Type 0 where
   pub answer : r ≡ packet_found file i
-  pub given : given_of file r ≡ packet_here file i
+  pub given : given_of file (as_packet r) ≡ packet_here file i
 
-pub record NextWordPost (file : List ℕ) (n : ℕ) (r : Found) : Type 0 where
+pub record NextWordPost (file : List ℕ) (n : ℕ) (r : Option ℕ) : Type 0 where
   pub answer : r ≡ word_found file n
-  pub given : given_of file r ≡ word_here file n
+  pub given : given_of file (as_word r) ≡ word_here file n
 
 -- From the next packet, the next word and how many words of the packet at hand are left: a word while any is left, then the next packet.
-abbrev pub next_found : List ℕ → ℕ → ℕ → ℕ → Found
-next_found file i n left = cond (eqb left 0) (packet_found file i) (word_found file n)
+abbrev pub next_found : List ℕ → ℕ → ℕ → ℕ → Option Found
+next_found file i n left = cond (eqb left 0) (as_packet (packet_found file i)) (as_word (word_found file n))
 
-pub record NextPost (file : List ℕ) (i n left : ℕ) (r : Found) : Type 0 where
+pub record NextPost (file : List ℕ) (i n left : ℕ) (r : Option Found) : Type 0 where
   pub answer : r ≡ next_found file i n left
   pub given : given_of file r ≡ cond (eqb left 0) (packet_here file i) (word_here file n)
 

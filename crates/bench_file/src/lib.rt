@@ -3,14 +3,16 @@
 #![tactic(auto)]
 
 ghost use Rattle.std.specs.Prelude.{◌≡◌, ◌+◌, ◌<◌, ◌≤◌, ◌^◌, length};
-ghost use Rattle.bench_file.specs.File.{header_bytes, packet_bytes, packet_place, packet_of, words_before, misfit, refusal_by, packet_refusal};
-ghost use Rattle.bench_file.specs.File.{first_refusal, check_of};
+ghost use Rattle.refusals.specs.Refusals.{code};
+ghost use Rattle.bench_file.specs.File.{header_bytes, packet_bytes, packet_place, packet_of, words_before, misfit, packet_refusal, first_refusal};
+ghost use Rattle.bench_file.specs.File.{check_of};
 ghost use Rattle.bench_file.specs.Reader.{reader_at, header_number, has_packet, has_word, past_packet, past_word, after_packet, after_word};
 ghost use Rattle.bench_file.specs.Reader.{NextPacketPost, NextWordPost, NextPost};
 
-use packet::{MAX_WORDS, Packet, REFUSED_COUNTS, REFUSED_FILE, REFUSED_FULL, REFUSED_PACKET};
+use packet::{MAX_WORDS, Packet};
+use refusals::Refusal;
 use words::Word;
-use words::little_endian::{get8, get16, get32, get64};
+use words::little_endian::get;
 
 // The longest file.
 pub const MOST_BYTES: usize = 60000;
@@ -27,12 +29,11 @@ pub struct FileReader<'a> {
     pub word: usize,
 }
 
-// What comes next: a packet and how many words it has, a word of ten bytes at a place of the file, or the end.
+// What comes next: a packet and how many words it has, or a word of ten bytes at a place of the file. At the end nothing does.
 #[derive(Clone, Copy)]
 pub enum Found {
     Packet { packet: Packet, words: u16 },
     Word { at: usize },
-    End,
 }
 
 // The packet whose 24 bytes stand at a place.
@@ -41,13 +42,13 @@ fn load_packet(file: &[u8], at: usize) -> Packet
     ensures { result ≡ packet_of file.now at }
 {
     Packet {
-        position: get64(file, at),
-        orbit: get32(file, at + 8) as u32,
-        trigger: get32(file, at + 12) as u32,
-        bc: get16(file, at + 16) as u16,
-        page: get16(file, at + 18) as u16,
-        stop: get8(file, at + 20) as u8,
-        format: get8(file, at + 21) as u8,
+        position: get::<8>(file, at),
+        orbit: get::<4>(file, at + 8) as u32,
+        trigger: get::<4>(file, at + 12) as u32,
+        bc: get::<2>(file, at + 16) as u16,
+        page: get::<2>(file, at + 18) as u16,
+        stop: get::<1>(file, at + 20) as u8,
+        format: get::<1>(file, at + 21) as u8,
     }
 }
 
@@ -60,14 +61,14 @@ fn is_misfit(file: &[u8]) -> bool
     if length < HEADER_BYTES {
         return true;
     }
-    let packets = get32(file, 0) as usize;
-    let words = get32(file, 4) as usize;
-    let packets_at = get32(file, 8) as usize;
-    let words_at = get32(file, 12) as usize;
-    (MOST_BYTES < length)
-        | ((packets_at != HEADER_BYTES)
-            | ((words_at != HEADER_BYTES + PACKET_BYTES * packets)
-                | (length != words_at + Word::SIZE * words)))
+    let packets = get::<4>(file, 0) as usize;
+    let words = get::<4>(file, 4) as usize;
+    let packets_at = get::<4>(file, 8) as usize;
+    let words_at = get::<4>(file, 12) as usize;
+    MOST_BYTES < length
+        || packets_at != HEADER_BYTES
+        || words_at != HEADER_BYTES + PACKET_BYTES * packets
+        || length != words_at + Word::SIZE * words
 }
 
 // The sum of the word counts of the first packets.
@@ -78,63 +79,49 @@ fn sum_counts(file: &[u8], packets: usize) -> u64
     ensures { result ≡ words_before file.now packets }
 {
     let mut sum: u64 = 0;
-    let mut packet: usize = 0;
-    while packet < packets {
-        sum = sum + get16(file, HEADER_BYTES + PACKET_BYTES * packet + 22);
-        packet = packet + 1;
+    for packet in 0..packets {
+        sum += get::<2>(file, HEADER_BYTES + PACKET_BYTES * packet + 22);
     }
     sum
 }
 
-// Refusal 5 before 3, or 0.
-fn refusal_by(in_range: bool, few: bool) -> u8
-    ensures { result ≡ refusal_by in_range few }
-{
-    if in_range {
-        if few { 0 } else { REFUSED_FULL }
-    } else {
-        REFUSED_PACKET
-    }
-}
-
-// The refusal of the packet at a place, or 0.
-fn packet_refusal(file: &[u8], at: usize) -> u8
+// Refusal 5 before 3 of the packet at a place.
+fn check_packet(file: &[u8], at: usize) -> Result<(), Refusal>
     requires { at + packet_bytes ≤ length file.now }
-    ensures { result ≡ packet_refusal file.now at }
+    ensures { code result ≡ packet_refusal file.now at }
 {
-    let in_range = packet::in_range(load_packet(file, at));
-    let few = get16(file, at + 22) <= MAX_WORDS as u64;
-    refusal_by(in_range, few)
-}
-
-// The first of these refusals, or 0.
-fn first_refusal(file: &[u8], packets: usize) -> u8
-    requires { packet_place packets ≤ length file.now }
-    ensures { result ≡ first_refusal file.now packets 0 }
-{
-    let mut i: usize = 0;
-    while i < packets {
-        let refusal = packet_refusal(file, HEADER_BYTES + PACKET_BYTES * i);
-        if refusal != 0 {
-            return refusal;
-        }
-        i = i + 1;
+    if !packet::in_range(load_packet(file, at)) {
+        return Err(Refusal::Packet);
     }
-    0
+    if get::<2>(file, at + 22) > MAX_WORDS as u64 {
+        return Err(Refusal::Full);
+    }
+    Ok(())
 }
 
-// The refusal of a file: 6, 7, then for each packet 5, 3; or 0.
-pub fn check(file: &[u8]) -> u8
-    ensures { result ≡ check_of file.now }
+// The first of these refusals.
+fn check_packets(file: &[u8], packets: usize) -> Result<(), Refusal>
+    requires { packet_place packets ≤ length file.now }
+    ensures { code result ≡ first_refusal file.now packets 0 }
+{
+    for i in 0..packets {
+        check_packet(file, HEADER_BYTES + PACKET_BYTES * i)?;
+    }
+    Ok(())
+}
+
+// The refusal of a file: 6, 7, then for each packet 5, 3.
+pub fn check(file: &[u8]) -> Result<(), Refusal>
+    ensures { code result ≡ check_of file.now }
 {
     if is_misfit(file) {
-        return REFUSED_FILE;
+        return Err(Refusal::File);
     }
-    let packets = get32(file, 0) as usize;
-    if sum_counts(file, packets) != get32(file, 4) {
-        return REFUSED_COUNTS;
+    let packets = get::<4>(file, 0) as usize;
+    if sum_counts(file, packets) != get::<4>(file, 4) {
+        return Err(Refusal::Counts);
     }
-    first_refusal(file, packets)
+    check_packets(file, packets)
 }
 
 // A number of the header; in fewer bytes than a header has, 0.
@@ -147,7 +134,7 @@ fn header_number(file: &[u8], at: usize) -> u64
     if file.len() < HEADER_BYTES {
         return 0;
     }
-    get32(file, at)
+    get::<4>(file, at)
 }
 
 // How many packets the header counts.
@@ -167,60 +154,49 @@ pub fn word_count(file: &[u8]) -> u64
 }
 
 // Whether the header counts a packet and its bytes lie in the file.
+#[tactic(auto, unfolding(crate::specs::Reader::header_number))]
 fn has_packet(file: &[u8], packet: usize) -> bool
     ensures { result ≡ has_packet file.now packet }
 {
-    if file.len() < HEADER_BYTES {
-        return false;
-    }
-    if get32(file, 0) as usize <= packet {
-        return false;
-    }
-    HEADER_BYTES + PACKET_BYTES * packet + PACKET_BYTES <= file.len()
+    packet < packet_count(file) as usize
+        && HEADER_BYTES + PACKET_BYTES * packet + PACKET_BYTES <= file.len()
 }
 
 // Whether the header counts a word and its bytes lie in the file.
+#[tactic(auto, unfolding(crate::specs::Reader::header_number))]
 fn has_word(file: &[u8], word: usize) -> bool
     ensures { result ≡ has_word file.now word }
 {
-    if file.len() < HEADER_BYTES {
-        return false;
-    }
-    if get32(file, 4) as usize <= word {
-        return false;
-    }
-    let packets = get32(file, 0) as usize;
-    HEADER_BYTES + PACKET_BYTES * packets + Word::SIZE * word + Word::SIZE <= file.len()
+    word < word_count(file) as usize
+        && HEADER_BYTES
+            + PACKET_BYTES * packet_count(file) as usize
+            + Word::SIZE * word
+            + Word::SIZE
+            <= file.len()
 }
 
-// A packet of the file by its number, with its word count; the end where there is none.
+// A packet of the file by its number, with its word count.
 #[tactic(auto, unfolding(crate::specs::Reader::packet_found))]
-pub fn packet_at(file: &[u8], packet: usize) -> Found
+pub fn packet_at(file: &[u8], packet: usize) -> Option<(Packet, u16)>
     ensures { NextPacketPost file.now packet result }
 {
     if has_packet(file, packet) {
         let at = HEADER_BYTES + PACKET_BYTES * packet;
-        Found::Packet {
-            packet: load_packet(file, at),
-            words: get16(file, at + 22) as u16,
-        }
+        Some((load_packet(file, at), get::<2>(file, at + 22) as u16))
     } else {
-        Found::End
+        None
     }
 }
 
-// A word of the file by its number in the whole file; the end where there is none.
+// The place of a word of the file by its number in the whole file.
 #[tactic(auto, unfolding(crate::specs::Reader::word_found))]
-pub fn word_at(file: &[u8], word: usize) -> Found
+pub fn word_at(file: &[u8], word: usize) -> Option<usize>
     ensures { NextWordPost file.now word result }
 {
     if has_word(file, word) {
-        let packets = get32(file, 0) as usize;
-        Found::Word {
-            at: HEADER_BYTES + PACKET_BYTES * packets + Word::SIZE * word,
-        }
+        Some(HEADER_BYTES + PACKET_BYTES * get::<4>(file, 0) as usize + Word::SIZE * word)
     } else {
-        Found::End
+        None
     }
 }
 
@@ -255,15 +231,15 @@ pub fn reader_at<'a>(bytes: &'a [u8], packet: usize, word: usize) -> FileReader<
     }
 }
 
-// The reader's next packet, or the end.
-pub fn next_packet<'a>(reader: FileReader<'a>) -> Found
+// The reader's next packet, with its word count.
+pub fn next_packet<'a>(reader: FileReader<'a>) -> Option<(Packet, u16)>
     ensures { NextPacketPost reader.entry.bytes.now reader.entry.packet result }
 {
     packet_at(reader.bytes, reader.packet)
 }
 
-// The reader's next word, or the end.
-pub fn next_word<'a>(reader: FileReader<'a>) -> Found
+// The place of the reader's next word.
+pub fn next_word<'a>(reader: FileReader<'a>) -> Option<usize>
     ensures { NextWordPost reader.entry.bytes.now reader.entry.word result }
 {
     word_at(reader.bytes, reader.word)
@@ -292,14 +268,14 @@ pub fn after_word<'a>(reader: FileReader<'a>) -> FileReader<'a>
 }
 
 // From a plain place to a reader and its next packet.
-fn packet_from(bytes: &[u8], packet: usize, word: usize) -> Found
+fn packet_from(bytes: &[u8], packet: usize, word: usize) -> Option<(Packet, u16)>
     ensures { NextPacketPost bytes.now packet result }
 {
     next_packet(reader_at(bytes, packet, word))
 }
 
 // From a plain place to a reader and its next word.
-fn word_from(bytes: &[u8], packet: usize, word: usize) -> Found
+fn word_from(bytes: &[u8], packet: usize, word: usize) -> Option<usize>
     ensures { NextWordPost bytes.now word result }
 {
     next_word(reader_at(bytes, packet, word))
@@ -307,13 +283,15 @@ fn word_from(bytes: &[u8], packet: usize, word: usize) -> Found
 
 // For a caller that holds the file itself and the place as numbers: what its reader gives next. A word while words of the packet at hand are left, then
 // the next packet, then the end.
-pub fn next(file: &[u8], packet: usize, word: usize, left: usize) -> Found
+pub fn next(file: &[u8], packet: usize, word: usize, left: usize) -> Option<Found>
     ensures { NextPost file.now packet word left result }
 {
     if left == 0 {
-        packet_from(file, packet, word)
+        let (packet, words) = packet_from(file, packet, word)?;
+        Some(Found::Packet { packet, words })
     } else {
-        word_from(file, packet, word)
+        let at = word_from(file, packet, word)?;
+        Some(Found::Word { at })
     }
 }
 

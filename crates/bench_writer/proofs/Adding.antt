@@ -15,9 +15,8 @@ use Rattle.packet.specs.declared.Packet.{Packet}
 use Rattle.packet.specs.Packet.{in_range, max_words}
 use Rattle.bench_file.specs.File.{packet_bytes, most_bytes}
 use Rattle.bench_writer.specs.declared.Draft.{Draft}
-use Rattle.bench_writer.specs.declared.Added.{Added}
 use Rattle.bench_writer.specs.Content.{packet_as}
-use Rattle.bench_writer.specs.Draft.{size, packet_end, GoodDraft, put_at, packet_refusal, packet_in, word_refusal, AddPost}
+use Rattle.bench_writer.specs.Draft.{size, packet_end, GoodDraft, put_at, packet_refusal, packet_in, word_refusal, Added, AddPost}
 use Rattle.bench_writer.proofs.Putting.{over}
 use Rattle.bench_writer.proofs.Shifting.{moved}
 

@@ -1,82 +1,39 @@
--- Bytes that are put at a place of a buffer: one after the other, and a list behind another.
+-- Bytes that are put at a place of a buffer: a number's, and a list behind another.
 -- Assumes nothing.
-use Prim.Native.Nat.{ℕ, suc, ◌+◌, ◌-◌, ◌/◌, ◌%◌, ◌≤◌, ◌<◌}
-use mathlib.Core.Path.{◌≡◌, refl, sym, ap, ap₂, ◌∙◌}
-use mathlib.Core.List.{List, ◌∷◌, ◌++◌, append_assoc}
-use native.Mathlib.Nat.{sub-zero}
-use native.Mathlib.Numerals.{add-one}
-use native.Mathlib.Omega.{arith}
-use lib.ListN.{length, take, drop, set, get_or, length-set, length-append, length-drop, take-append-drop}
-use lib.Seq.{paste, paste-zero, paste-suc, take-length, drop-cons, length-take-le, take_at, drop_at, drop-drop}
+use Rattle.std.proofs.Common.{ℕ, zero, suc, ◌+◌, ◌/◌, ◌%◌, ◌^◌, ◌≤◌, ◌<◌, ◌≡◌, refl, sym, ap, ap₂, ◌∙◌, arith, div-one, pow-suc, mod-eq_of_lt}
+use Rattle.std.proofs.Common.{List, [], ◌∷◌, ◌++◌, append_assoc, length, take, drop, length-append, length-drop, take-append-drop, drop-drop, length-take-le}
+use Rattle.std.proofs.Math.Nat.{div-div-eq-div-mul}
+use Rattle.std.proofs.Math.Seq.{take_at, drop_at}
+use Rattle.std.specs.Int.{byte_at, bytes_low_first}
 use Rattle.writer.specs.Write.{bytes_of}
-use Rattle.writer.proofs.Bytes.{bytes_long}
 use Rattle.packet.specs.declared.Packet.{Packet}
 use Rattle.bench_file.specs.File.{header_bytes, packet_place}
 use Rattle.bench_writer.specs.Content.{packet_as, header}
 use Rattle.bench_writer.specs.Draft.{put_at}
 
--- The first i of a list's bytes have been put.
-pub record Copied (base : List ℕ) (at : ℕ) (bytes out : List ℕ) (i : ℕ) : Type 0 where
-  pub within : i ≤ length bytes
-  pub long : length out ≡ length base
-  pub is : out ≡ paste base at bytes i
+-- The bytes of a number as the library gives them.
+byte : (i n : ℕ) → byte_at i n ≡ n / 256 ^ i % 256
+byte zero n = ap (λ (m : ℕ). m % 256) (sym (div-one n))
+byte (suc i) n = refl
 
-pub none_copied : (base : List ℕ) (at : ℕ) (bytes : List ℕ) → Copied base at bytes base 0
-none_copied base at bytes = record { within = omega arith; long = refl; is = paste-zero base at bytes }
-
-pub one_copied : {base bytes out : List ℕ} {at i : ℕ} {byte : ℕ} → at + length bytes ≤ length base → i < length bytes
-    → byte ≡ get_or bytes i 0
-    → Copied base at bytes out i
-    → Copied base at bytes (set out (at + i) byte) (i + 1)
-one_copied {base} {bytes} {out} {at} {i} {byte} room more e c =
-    record {
-      within = omega arith;
-      long = length-set out (at + i) byte ∙ c.long;
-      is =
-          ap₂ (λ (l : List ℕ) (x : ℕ). set l (at + i) x) c.is e
-          ∙ paste-suc base at bytes i 0 (omega arith) more
-          ∙ ap (paste base at bytes) (sym (add-one i));
-    }
-
-pub all_copied : {base bytes out : List ℕ} {at i : ℕ} → length bytes ≤ i → Copied base at bytes out i
-    → out ≡ put_at at bytes base
-all_copied {base} {bytes} {at} {i} end c =
-    let within = c.within in
-    let e : i ≡ length bytes = omega arith in
-    c.is
-    ∙ ap (paste base at bytes) e
-    ∙ ap (λ (l : List ℕ). take at base ++ l ++ drop (at + length bytes) base) (take-length bytes)
-    ∙ append_assoc (take at base) bytes (drop (at + length bytes) base)
-
--- The same of a number's bytes, whose rest gives the next one.
-pub record Spelled (base : List ℕ) (at n count : ℕ) (out : List ℕ) (rest i : ℕ) : Type 0 where
-  pub copied : Copied base at (bytes_of count n) out i
-  pub rest_is : drop i (bytes_of count n) ≡ bytes_of (count - i) rest
-
-pub none_spelled : (base : List ℕ) (at n count : ℕ) → Spelled base at n count base n 0
-none_spelled base at n count = record { copied = none_copied base at (bytes_of count n); rest_is = rw (sub-zero count) }
-
-pub one_spelled : {base : List ℕ} {at n count : ℕ} {out : List ℕ} {rest i : ℕ} → at + count ≤ length base → i < count
-    → Spelled base at n count out rest i
-    → Spelled base at n count (set out (at + i) (rest % 256)) (rest / 256) (i + 1)
+from_byte : (i k n : ℕ) → bytes_low_first i k n ≡ bytes_of k (n / 256 ^ i)
 unfolding bytes_of
-one_spelled {base} {at} {n} {count} {out} {rest} {i} room more s =
-    let bytes = bytes_of count n in
-    let long = bytes_long count n in
-    let k : count - i ≡ suc (count - (i + 1)) = omega arith in
-    let two : get_or bytes i 0 ∷ drop (suc i) bytes ≡ rest % 256 ∷ bytes_of (count - (i + 1)) (rest / 256) =
-    sym (drop-cons bytes i 0 (omega arith)) ∙ s.rest_is ∙ ap (λ (j : ℕ). bytes_of j rest) k in
-    let byte : rest % 256 ≡ get_or bytes i 0 = cc in
-    let later : drop (suc i) bytes ≡ bytes_of (count - (i + 1)) (rest / 256) = cc in
-    record {
-      copied = one_copied (omega arith) (omega arith) byte s.copied;
-      rest_is = ap (λ (j : ℕ). drop j bytes) (add-one i) ∙ later;
-    }
+from_byte i zero n = refl
+from_byte i (suc k) n =
+    let next : n / 256 ^ suc i ≡ n / 256 ^ i / 256 = ap (λ (m : ℕ). n / m) (pow-suc 256 i) ∙ sym (div-div-eq-div-mul n (256 ^ i) 256) in
+    ap₂ ◌∷◌ (byte i n) (from_byte (suc i) k n ∙ ap (bytes_of k) next)
 
-pub all_spelled : {base : List ℕ} {at n count : ℕ} {out : List ℕ} {rest i : ℕ} → count ≤ i
-    → Spelled base at n count out rest i
-    → out ≡ put_at at (bytes_of count n) base
-all_spelled {n} {count} end s = all_copied (omega (arith, bytes_long count n)) s.copied
+pub le_bytes : (k n : ℕ) → bytes_low_first 0 k n ≡ bytes_of k n
+le_bytes k n = from_byte 0 k n ∙ ap (bytes_of k) (div-one n)
+
+pub number_put : (k n at : ℕ) (buffer : List ℕ) {bytes after : List ℕ} → bytes ≡ bytes_low_first 0 k n → after ≡ put_at at bytes buffer
+    → after ≡ put_at at (bytes_of k n) buffer
+number_put k n at buffer e h = h ∙ ap (λ (l : List ℕ). put_at at l buffer) (e ∙ le_bytes k n)
+
+pub byte_put : (n at : ℕ) (buffer : List ℕ) {bytes after : List ℕ} → n < 256 → bytes ≡ n ∷ [] → after ≡ put_at at bytes buffer
+    → after ≡ put_at at (bytes_of 1 n) buffer
+unfolding bytes_of
+byte_put n at buffer small e h = h ∙ ap (λ (l : List ℕ). put_at at l buffer) (e ∙ ap (λ (b : ℕ). b ∷ []) (sym (mod-eq_of_lt small)))
 
 -- Bytes put over as many bytes.
 pub over : (place : ℕ) (bytes buffer x y z : List ℕ) → buffer ≡ x ++ (y ++ z) → length x ≡ place → length y ≡ length bytes

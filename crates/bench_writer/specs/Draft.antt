@@ -1,15 +1,15 @@
 -- Issue 25, a bench file that is being made in a lent buffer: behind room for the header stand the packets, each with its count, then the words. Which
 -- packet and which word is refused, and what the buffer is after each call.
 -- Assumes nothing.
-use Rattle.std.specs.Prelude.{ℕ, ◌+◌, ◌-◌, ◌≤◌, ◌≡◌, cond, List, ◌++◌, leb, ltb, eqb, length, take, drop}
+use Rattle.std.specs.Prelude.{ℕ, ◌+◌, ◌-◌, ◌≤◌, ◌≡◌, cond, List, ◌++◌, Result, Ok, Err, leb, ltb, eqb, length, take, drop}
+use Rattle.refusals.specs.declared.Refusal.{Refusal}
+use Rattle.refusals.specs.Refusals.{number}
 use Rattle.words.specs.Word.{word_bytes}
 use Rattle.writer.specs.Write.{bytes_of}
 use Rattle.packet.specs.declared.Packet.{Packet}
 use Rattle.packet.specs.Packet.{in_range, max_words}
 use Rattle.bench_file.specs.File.{header_bytes, packet_bytes, most_bytes, packet_place}
 use Rattle.bench_writer.specs.declared.Draft.{Draft}
-use Rattle.bench_writer.specs.declared.Added.{Added}
-use Rattle.bench_writer.specs.declared.PacketFields.{PacketFields}
 use Rattle.bench_writer.specs.Content.{Entry, packets_in, words_in, trailing, packet_as, table, bodies, header, size_of, Fine}
 
 -- The counts of entries, and of none.
@@ -30,19 +30,6 @@ packet_end d = packet_place d.packets
 pub record GoodDraft (buffer : List ℕ) (d : Draft) : Type 0 where
   pub long : length buffer ≡ most_bytes
   pub short : size d ≤ most_bytes
-
--- The packet whose fields are given.
-abbrev pub packet_from : PacketFields → Packet
-packet_from f =
-    record {
-      position = f.position;
-      orbit = f.orbit;
-      trigger = f.trigger;
-      bc = f.bc;
-      page = f.page;
-      stop = f.stop;
-      format = f.format;
-    }
 
 -- Bytes over those that stand at a place.
 abbrev pub put_at : ℕ → List ℕ → List ℕ → List ℕ
@@ -72,6 +59,15 @@ with_word d = record { packets = d.packets; words = d.words + 1; last = d.last +
 unfoldable pub word_in : Draft → List ℕ → List ℕ → List ℕ
 word_in d w buffer = put_at (size d) w (put_at (packet_end d - 2) (bytes_of 2 (d.last + 1)) buffer)
 
+-- The refusal of a call, or 0, and the draft after it: refused, that is as it was.
+pub record Added : Type 0 where
+  pub refusal : ℕ
+  pub draft : Draft
+
+abbrev pub told : Draft → Result Draft Refusal → Added
+told d (Ok next) = record { refusal = 0; draft = next }
+told d (Err r) = record { refusal = number r; draft = d }
+
 -- What a call gives: the refusal, and the draft and the buffer with the entry; refused, both are as they were.
 pub record AddPost (refusal : ℕ) (d next : Draft) (buffer added : List ℕ) (r : Added) (after : List ℕ) : Type 0 where
   pub answer : r.refusal ≡ refusal
@@ -79,11 +75,11 @@ pub record AddPost (refusal : ℕ) (d next : Draft) (buffer added : List ℕ) (r
   pub buffer_is : after ≡ cond (eqb refusal 0) added buffer
   pub good : GoodDraft after r.draft
 
-abbrev pub AddPacketPost : Draft → Packet → List ℕ → Added → List ℕ → Type 0
-AddPacketPost d p buffer = AddPost (packet_refusal d p) d (with_packet d) buffer (packet_in d p buffer)
+abbrev pub AddPacketPost : Draft → Packet → List ℕ → Result Draft Refusal → List ℕ → Type 0
+AddPacketPost d p buffer r = AddPost (packet_refusal d p) d (with_packet d) buffer (packet_in d p buffer) (told d r)
 
-abbrev pub AddWordPost : Draft → List ℕ → List ℕ → Added → List ℕ → Type 0
-AddWordPost d w buffer = AddPost (word_refusal d) d (with_word d) buffer (word_in d w buffer)
+abbrev pub AddWordPost : Draft → List ℕ → List ℕ → Result Draft Refusal → List ℕ → Type 0
+AddWordPost d w buffer r = AddPost (word_refusal d) d (with_word d) buffer (word_in d w buffer) (told d r)
 
 -- The header is put in its place; the file stands at the front of the buffer.
 pub record FinishPost (d : Draft) (buffer : List ℕ) (n : ℕ) (after : List ℕ) : Type 0 where

@@ -2,12 +2,12 @@
 // Its buffers, with the 1,024 bytes of eprintln, are together below 65,536 bytes, whatever the length of the text.
 #![tactic(auto)]
 
-ghost use Rattle.std.specs.Prelude.{◌≡◌, true, ◌≤◌, length, take};
+ghost use Rattle.std.specs.Prelude.{◌≡◌, ◌≤◌, length, take, IfSome};
 ghost use Rattle.bench_file.specs.File.{most_bytes};
 ghost use Rattle.script.specs.Outcome.{most_line, IsAnswer};
 ghost use Rattle.script.specs.Feeding.{HasRead};
 
-use script::Reading;
+use script::{Answer, Reading};
 use std::io::Read;
 
 // Bytes that are read at once.
@@ -16,84 +16,47 @@ const PIECE: usize = 512;
 // Reads of one text: below 2^63 bytes in all, so that no line's number passes the last one. A text that goes on is not read to its end.
 const MOST_READS: u64 = 0x3F_FFFF_FFFF_FFFF;
 
-// How far the text was read, and whether that is to its end or to a line that is refused.
-#[derive(Clone, Copy)]
-struct Text {
-    reading: Reading,
-    whole: bool,
-}
-
-// Reads to the end of the text, to a line that is refused or to a read that fails.
-fn read_text<R: Read>(from: &mut R, buffer: &mut [u8], held: &mut [u8], piece: &mut [u8]) -> Text
+// Reads to the end of the text or to a line that is refused; none where a read fails, or the text goes on.
+fn read_text<R: Read>(
+    from: &mut R,
+    buffer: &mut [u8],
+    held: &mut [u8],
+    piece: &mut [u8],
+) -> Option<Reading>
     requires buffer_len { length buffer.old ≡ most_bytes }
     requires held_len { length held.old ≡ most_line }
     requires piece_len_bound { length piece.old ≤ 512 }
-    ensures { HasRead buffer.old held.old buffer.new held.new result.reading }
+    ensures { IfSome result (λ r. HasRead buffer.old held.old buffer.new held.new r) }
 {
     let mut reading = script::start();
-    let mut left: u64 = MOST_READS;
-    while left != 0 {
-        let got = input::read_some(from, piece);
-        let n = got.n;
-        if got.failed {
-            return Text {
-                reading: reading,
-                whole: false,
-            };
-        }
+    for _i in 0..MOST_READS {
+        let n = from.read(piece).ok()?;
         if n == 0 {
-            return Text {
-                reading: reading,
-                whole: true,
-            };
+            return Some(reading);
         }
-        let next = script::feed(buffer, held, reading, &piece[..n]);
-        reading = next;
-        if reading.refusal != 0 {
-            return Text {
-                reading: reading,
-                whole: true,
-            };
+        reading = script::feed(buffer, held, reading, &piece[..n]);
+        if reading.refusal.is_some() {
+            return Some(reading);
         }
-        left = left - 1;
     }
-    Text {
-        reading: reading,
-        whole: false,
-    }
+    None
 }
 
-// What stands at the front of the buffer, of which file or refusal, or that the text was not read to its end.
-#[derive(Clone, Copy)]
-struct Made {
-    n: usize,
-    refusal: u8,
-    whole: bool,
-}
-
-// The answer of the text that is read.
-fn make<R: Read>(from: &mut R, buffer: &mut [u8], held: &mut [u8], piece: &mut [u8]) -> Made
+// The answer of the text that is read; none where it was not read to its end.
+fn make<R: Read>(
+    from: &mut R,
+    buffer: &mut [u8],
+    held: &mut [u8],
+    piece: &mut [u8],
+) -> Option<Answer>
     requires buffer_len { length buffer.old ≡ most_bytes }
     requires held_len { length held.old ≡ most_line }
     requires piece_len_bound { length piece.old ≤ 512 }
-    ensures answer { result.whole ≡ true → IsAnswer (take result.n buffer.new) }
-    ensures n_in_bounds { result.n ≤ length buffer.new }
+    ensures answer { IfSome result (λ a. IsAnswer (take a.n buffer.new)) }
+    ensures n_in_bounds { IfSome result (λ a. a.n ≤ length buffer.new) }
 {
-    let text = read_text(from, buffer, held, piece);
-    if !text.whole {
-        return Made {
-            n: 0,
-            refusal: 0,
-            whole: false,
-        };
-    }
-    let reading = text.reading;
-    let answer = script::finish(buffer, held, reading);
-    Made {
-        n: answer.n,
-        refusal: answer.refusal,
-        whole: true,
-    }
+    let reading = read_text(from, buffer, held, piece)?;
+    Some(script::finish(buffer, held, reading))
 }
 
 // Writes the answer. A file is checked before a byte of it is written.
@@ -108,19 +71,16 @@ fn run<R: Read>(
     requires held_len { length held.old ≡ most_line }
     requires piece_len_bound { length piece.old ≤ 512 }
 {
-    let made = make(from, buffer, held, piece);
-    if !made.whole {
+    let Some(answer) = make(from, buffer, held, piece) else {
         let _ = rt.eprintln("benchwrite: standard input cannot be read");
         return;
+    };
+    let made = &buffer[..answer.n];
+    if answer.refusal.is_none() && bench_file::check(made).is_err() {
+        let _ = rt.eprintln("benchwrite: what was made is no bench file");
+        return;
     }
-    let n = made.n;
-    if made.refusal == 0 {
-        if bench_file::check(&buffer[..n]) != 0 {
-            let _ = rt.eprintln("benchwrite: what was made is no bench file");
-            return;
-        }
-    }
-    let _ = rt.write_all(&buffer[..n]);
+    let _ = rt.write_all(made);
 }
 
 fn main(rt: HostRuntime) {

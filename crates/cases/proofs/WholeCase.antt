@@ -8,6 +8,7 @@ use lib.Count.{ones}
 use Rattle.words.specs.Word.{number, word_of, bits}
 use Rattle.words.specs.LittleEndian.{number_at}
 use Rattle.packet.specs.declared.Rule.TheVariants as R
+use Rattle.std.specs.Prelude.{Some}
 use Rattle.packet.specs.declared.Settings.{Settings}
 use Rattle.packet.specs.declared.Packet.{Packet}
 use Rattle.records.specs.Records.{flat, given, most_records}
@@ -25,7 +26,7 @@ use Rattle.cases.specs.WholeCase.{whole_case, five_words}
 
 -- Running checks and frames on, period 198.
 pub settings : Settings
-settings = record { running = true; frames = true; periodic = true; period = 198; rule = R.One }
+settings = record { running = true; frames = true; period = Some 198; rule = R.One }
 
 pub packet : Packet
 packet = record { position = 0; orbit = 7; trigger = 0x10; bc = 0x0DEC; page = 0; stop = 0; format = 2 }

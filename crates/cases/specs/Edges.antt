@@ -1,6 +1,6 @@
 -- 01, "At the edges": the rows marked P, as one table.
 -- Assumes nothing.
-use Rattle.std.specs.Prelude.{ℕ, ◌≡◌, Bool, true, false, List, [], ◌∷◌, ◌++◌, length}
+use Rattle.std.specs.Prelude.{ℕ, ◌≡◌, Bool, true, false, Some, List, [], ◌∷◌, ◌++◌, length}
 use Rattle.words.specs.declared.Word.{Word}
 use Rattle.words.specs.Tdh.{no_data, trigger_bc, internal_trigger}
 use Rattle.words.specs.LaneStatus.{lane_status, worst_lane}
@@ -25,7 +25,7 @@ pub data Edge : Type 0 where
 
 -- Running checks on with a period, by either rule, and an earlier internal TDH.
 abbrev pub periodic : Rule → ℕ → Settings
-periodic rule n = record { running = true; frames = true; periodic = true; period = n; rule = rule }
+periodic rule n = record { running = true; frames = true; period = Some n; rule = rule }
 
 abbrev pub earlier : ℕ → ℕ → InternalTdh
 earlier bc orbit = record { present = true; bc = bc; orbit = orbit }

@@ -4,24 +4,25 @@ use Prim.Native.Nat.{ℕ, ◌≤◌, ◌<◌}
 use mathlib.Core.Path.{◌≡◌, refl, sym, ap, subst, ◌∙◌}
 use mathlib.Core.Bool.{Bool, true, false, cond}
 use mathlib.Core.List.{List}
+use Rattle.std.specs.Prelude.{Result, Ok, Err}
 use lib.Dec.{eqb}
 use lib.ListN.{length}
 use borrow.Author.Tests.{le-leb, lt-leb, lt-ltb, le-ltb, eq-eqb, ne_eqb}
 use Rattle.words.specs.declared.Word.{Word}
-use Rattle.words.specs.declared.FromBuf.{FromBuf}
-use Rattle.words.specs.declared.FromBuf.TheVariants as B
+use Rattle.refusals.specs.declared.Refusal.{Refusal}
+use Rattle.refusals.specs.declared.Refusal.TheVariants as R
 use Rattle.words.specs.Word.{word_of, from_buf}
 use Rattle.packet.specs.declared.Packet.{Packet}
 use Rattle.packet.specs.Packet.{in_range, max_words, most_packets}
 use Rattle.payload_fsm.specs.declared.Advanced.{Advanced}
 use Rattle.records.specs.declared.Row.{Row}
-use Rattle.records.specs.declared.Written.{Written}
-use Rattle.records.specs.declared.Written.TheVariants.{Records, NoRoom}
+use Rattle.refusals.specs.declared.Refusal.{Refusal}
+use Rattle.refusals.specs.declared.Refusal.TheVariants.{Room}
 use Rattle.words.specs.Lists.{over}
 use Rattle.records.specs.Records.{given, flat, room, exceed, padded, WritePost}
 use Rattle.records.proofs.Given.{given_padded}
 use Rattle.cdp_running.specs.declared.Tracker.{Tracker}
-use Rattle.cdp_running.specs.declared.WordAnswer.{WordAnswer}
+use Rattle.cdp_running.specs.Told.{WordAnswer}
 use Rattle.cdp_running.specs.Tracker.{Good, packet_call, accept_of, PacketPost}
 use Rattle.cdp_running.specs.Word.{taken_as, position_now, rows_of, records_of, Outcome, refused, taken_of}
 use Rattle.cdp_running.specs.Word.{taken_answer, word_call, word_answer, records_in, WordPost}
@@ -47,19 +48,19 @@ module _ (t : Tracker) (p : Packet) (g : Good t) where
   packet_accepted e h = record { answer = simp (e, lt-ltb _ _ h); good = good_accept t p g e h }
 
 -- What the bytes were read as tells their length.
-pub not_ten : (bytes : List ℕ) {r : FromBuf} {n : ℕ} → r ≡ from_buf bytes → r ≡ B.Refused n
+pub not_ten : (bytes : List ℕ) {r : Result Word Refusal} {n : Refusal} → r ≡ from_buf bytes → r ≡ Err n
     → eqb (length bytes) 10 ≡ false
 not_ten bytes {r} {n} d e = at (eqb (length bytes) 10) (sym d ∙ e)
   where
-    at : (b : Bool) → cond b (B.Is (word_of bytes)) (B.Refused 1) ≡ B.Refused n → b ≡ false
+    at : (b : Bool) → cond b (Ok (word_of bytes)) (Err R.Size) ≡ Err n → b ≡ false
     at true q = cc
     at false q = refl
 
-pub ten : (bytes : List ℕ) {r : FromBuf} {w : Word} → r ≡ from_buf bytes → r ≡ B.Is w → (eqb (length bytes) 10 ≡ true)
+pub ten : (bytes : List ℕ) {r : Result Word Refusal} {w : Word} → r ≡ from_buf bytes → r ≡ Ok w → (eqb (length bytes) 10 ≡ true)
     × (w ≡ word_of bytes)
 ten bytes {r} {w} d e = at (eqb (length bytes) 10) (sym d ∙ e)
   where
-    at : (b : Bool) → cond b (B.Is (word_of bytes)) (B.Refused 1) ≡ B.Is w → (b ≡ true) × (w ≡ word_of bytes)
+    at : (b : Bool) → cond b (Ok (word_of bytes)) (Err R.Size) ≡ Ok w → (b ≡ true) × (w ≡ word_of bytes)
     at true q = (refl, cc)
     at false q = (cc, cc)
 
@@ -70,17 +71,17 @@ met : {t : Tracker} {bytes buffer after : List ℕ} {r : WordAnswer} (o : Outcom
 met o e a b g = record { answer = rw e a; buffer_is = rw e b; good = rw a g }
 
 -- What writing the records found.
-no_room : (b : Bool) (n : ℕ) {x : Written} → x ≡ cond b NoRoom (Records n) → x ≡ NoRoom → b ≡ true
+no_room : (b : Bool) (n : ℕ) {e₀ : Refusal} {x : Result ℕ Refusal} → x ≡ cond b (Err Room) (Ok n) → x ≡ Err e₀ → b ≡ true
 no_room true n p q = refl
 no_room false n p q = cc
 
-wrote : (b : Bool) {n m : ℕ} {x : Written} → x ≡ cond b NoRoom (Records m) → x ≡ Records n → (b ≡ false) × (n ≡ m)
+wrote : (b : Bool) {n m : ℕ} {x : Result ℕ Refusal} → x ≡ cond b (Err Room) (Ok m) → x ≡ Ok n → (b ≡ false) × (n ≡ m)
 wrote true p q = (cc, cc)
 wrote false p q = (refl, cc)
 
 -- What the code computed on the way, put in the definition's terms.
 module _ (t : Tracker) (bytes : List ℕ) {a : Advanced} {w : Word} (p : a ≡ taken_as t w) (q : w ≡ word_of bytes) where
-  pub as_written : {here : ℕ} {rows : List Row} {buffer after : List ℕ} {x : Written} → here ≡ position_now t
+  pub as_written : {here : ℕ} {rows : List Row} {buffer after : List ℕ} {x : Result ℕ Refusal} → here ≡ position_now t
       → rows ≡ padded (rows_of t a w)
       → WritePost here t.packets rows buffer x after
       → WritePost (position_now t) t.packets (padded (rows_of t (taken_as t (word_of bytes)) (word_of bytes))) buffer x after
@@ -131,12 +132,12 @@ module _ (t : Tracker) (bytes buffer : List ℕ) (g : Good t) where
         records_are = given_padded (position_now t) t.packets (rows_of t (taken_as t (word_of bytes)) (word_of bytes))
 
         -- What the write of the word's rows answered and left.
-        abbrev Wrote : Written → List ℕ → Type 0
+        abbrev Wrote : Result ℕ Refusal → List ℕ → Type 0
         Wrote x after =
             WritePost (position_now t) t.packets (padded (rows_of t (taken_as t (word_of bytes)) (word_of bytes))) buffer x
             after
 
-        pub word_4 : {r : WordAnswer} {after : List ℕ} {x : Written} → Wrote x after → x ≡ NoRoom
+        pub word_4 : {r : WordAnswer} {after : List ℕ} {x : Result ℕ Refusal} {e₀ : Refusal} → Wrote x after → x ≡ Err e₀
             → r ≡ word_answer t (refused 4)
             → WordPost t bytes buffer r after
         word_4 w e a =
@@ -145,7 +146,7 @@ module _ (t : Tracker) (bytes buffer : List ℕ) (g : Good t) where
             let stays = simp (records_are, full) at w.buffer_is in
             rw stays (refusal 4 (reached ∙ simp full) a)
 
-        pub word_taken : {r : WordAnswer} {after : List ℕ} {x : Written} {n : ℕ} → Wrote x after → x ≡ Records n
+        pub word_taken : {r : WordAnswer} {after : List ℕ} {x : Result ℕ Refusal} {n : ℕ} → Wrote x after → x ≡ Ok n
             → r ≡ taken_answer t (taken_as t (word_of bytes)) (word_of bytes) n → WordPost t bytes buffer r after
         unfolding taken_of
         word_taken w e a =

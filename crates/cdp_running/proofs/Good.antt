@@ -1,18 +1,17 @@
 -- The invariant holds after the start and after every call.
 -- Assumes nothing.
-use Prim.Native.Nat.{ℕ, ◌+◌, ◌<◌}
+use Prim.Native.Nat.{◌+◌, ◌<◌}
 use mathlib.Core.Path.{◌≡◌, refl, sym, ap, ◌∙◌}
-use mathlib.Core.Bool.{Bool, true, false, cond, true≢false}
+use mathlib.Core.Bool.{true, false, true≢false}
 use native.Mathlib.Omega.{arith}
 use borrow.Author.Tests.{lt-ltb}
 use Rattle.words.specs.declared.Word.{Word}
 use Rattle.packet.specs.declared.Settings.{Settings}
 use Rattle.packet.specs.declared.Packet.{Packet}
-use Rattle.packet.specs.Packet.{in_range, max_words, most_packets, no_packet}
+use Rattle.packet.specs.Packet.{in_range, max_words, most_packets}
 use Rattle.packet.proofs.Places.{position_most}
 use Rattle.payload_fsm.specs.Step.{start}
 use Rattle.stored.proofs.Good.{good_none, good_stored, good_frame, kept_ihw, kept_tdh}
-use Rattle.stored.specs.Kept.{no_stored, no_frame}
 use Rattle.cdp_running.specs.declared.Tracker.{Tracker}
 use Rattle.cdp_running.specs.Tracker.{Good, start_of, reset_of, accept_of, past_ihw, past_tdh}
 use Rattle.cdp_running.specs.Next.{next_tracker}
@@ -22,41 +21,16 @@ use Rattle.cdp_running.proofs.Presence.{comes}
 clash : {A : Type 0} → true ≡ false → A
 clash e = absurd (true≢false e)
 
--- A period that is absent stays 0.
-twice : (b : Bool) (n : ℕ) → cond b n 0 ≡ cond b (cond b n 0) 0
-twice true n = refl
-twice false n = refl
-
-absent_zero : (b : Bool) (n : ℕ) → b ≡ false → cond b n 0 ≡ 0
-absent_zero true n e = clash e
-absent_zero false n e = refl
-
--- The start with a period as it is.
-begun : Settings → ℕ → Tracker
-begun s n =
-    record {
-      settings =
-          record { running = s.running; frames = s.frames; periodic = s.periodic; period = n; rule = s.rule };
-      accepted = false;
-      packets = 0;
-      packet = no_packet;
-      at = record { fsm = start; count = 0; seen = false };
-      stored = no_stored;
-      frame = no_frame;
-    }
-
 pub good_start : (s : Settings) → Good (start_of s)
-unfolding begun
 good_start s =
     record {
-      settings = record { absent = absent_zero s.periodic s.period };
       packet = refl;
       count = omega arith;
       stored = good_none;
       frame = record { start = omega arith; absent = λ _. refl; off = λ _. refl };
       ihw_present = λ e. clash (sym e);
       tdh_present = λ e. clash (sym e);
-      fresh = λ _. ap (begun s) (twice s.periodic s.period);
+      fresh = λ _. refl;
       counted = refl;
       few = omega arith;
     }
@@ -64,7 +38,6 @@ good_start s =
 pub good_reset : (t : Tracker) → Good t → Good (reset_of t)
 good_reset t g =
     record {
-      settings = g.settings;
       packet = g.packet;
       count = g.count;
       stored = g.stored;
@@ -80,7 +53,6 @@ pub good_accept : (t : Tracker) (p : Packet) → Good t → in_range p ≡ true 
     → Good (accept_of t p)
 good_accept t p g e h =
     record {
-      settings = g.settings;
       packet = e;
       count = omega arith;
       stored = g.stored;
@@ -98,7 +70,6 @@ good_next t w g have h =
     let a = taken_as t w in
     let c = comes t.at.fsm.state w in
     record {
-      settings = g.settings;
       packet = g.packet;
       count = omega arith;
       stored = good_stored a.word t.at.seen w t.stored g.stored;

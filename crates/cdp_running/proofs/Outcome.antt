@@ -13,7 +13,7 @@ use Rattle.packet.specs.declared.Packet.{Packet}
 use Rattle.packet.specs.Packet.{in_range, max_words, most_packets}
 use Rattle.records.specs.Records.{exceed}
 use Rattle.cdp_running.specs.declared.Tracker.{Tracker}
-use Rattle.cdp_running.specs.declared.PacketAnswer.{PacketAnswer}
+use Rattle.cdp_running.specs.Told.{PacketAnswer}
 use Rattle.cdp_running.specs.Tracker.{accept_of, packet_call}
 use Rattle.cdp_running.specs.Next.{next_tracker}
 use Rattle.cdp_running.specs.Word.{taken_as, records_of, TakenWord, taken, refused, taken_of, word_call}

@@ -1,12 +1,15 @@
 -- 01, "Each place and its form": "Where an answer is an enum, a definition gives this paper's number and values for each of its cases". The numbers of
 -- what a word call tells: "A word call answers kind, guessed or not, records written, and frame: none, opened, or closed with start and end."
 -- Assumes nothing.
-use Rattle.std.specs.Prelude.{ℕ, cond}
+use Rattle.std.specs.Prelude.{ℕ, cond, Result, Ok, Err}
+use Rattle.refusals.specs.declared.Refusal.{Refusal}
 use Rattle.payload_fsm.specs.Kinds.{kind_number}
 use Rattle.stored.specs.declared.FrameTold.{FrameTold}
 use Rattle.stored.specs.declared.FrameTold.TheVariants as F
-use Rattle.cdp_running.specs.declared.Told.{Told}
-use Rattle.cdp_running.specs.declared.Told.TheVariants as T
+use Rattle.cdp_running.specs.declared.Tracker.{Tracker}
+use Rattle.cdp_running.specs.declared.Taken.{Taken}
+use Rattle.cdp_running.specs.Told.{Told}
+use Rattle.cdp_running.specs.Told as T
 
 pub record Numbers : Type 0 where
   pub refusal : ℕ
@@ -48,3 +51,8 @@ numbers_of (T.Taken x) =
       lanes = x.lanes;
     }
 numbers_of (T.Refused n) = record { refusal = n; kind = 0; guessed = 0; records = 0; frame = 0; start = 0; end = 0; lanes = 0 }
+
+-- How many records a word call gave.
+abbrev pub records_told : Result (Tracker × Taken) Refusal → ℕ
+records_told (Ok next) = next.1.records
+records_told (Err r) = 0

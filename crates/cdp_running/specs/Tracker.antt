@@ -3,20 +3,19 @@
 use Rattle.std.specs.Prelude.{◌+◌, ◌≤◌, ◌≡◌, Bool, true, false, cond, ltb}
 use Rattle.packet.specs.declared.Settings.{Settings}
 use Rattle.packet.specs.declared.Packet.{Packet}
-use Rattle.packet.specs.Settings.{settings_of, GoodSettings}
 use Rattle.packet.specs.Packet.{no_packet, in_range, max_words, most_packets}
 use Rattle.payload_fsm.specs.declared.State.{State}
 use Rattle.payload_fsm.specs.declared.State.TheVariants as S
 use Rattle.payload_fsm.specs.Step.{start}
 use Rattle.stored.specs.Kept.{no_stored, no_frame, GoodStored, GoodFrame}
 use Rattle.cdp_running.specs.declared.Tracker.{Tracker}
-use Rattle.cdp_running.specs.declared.PacketAnswer.{PacketAnswer}
+use Rattle.cdp_running.specs.Told.{PacketAnswer}
 
 -- The start: nothing stored, in IHW_, with no packet.
 abbrev pub start_of : Settings → Tracker
 start_of s =
     record {
-      settings = settings_of s;
+      settings = s;
       accepted = false;
       packets = 0;
       packet = no_packet;
@@ -80,7 +79,6 @@ past_tdh S.CTdh = true
 -- The tracker's invariant: what the start and every call give. An IHW is stored outside the start state, and a TDH wherever a previous one is read;
 -- before the first packet all is as the start gave it. A packet was accepted where some are counted, and no more are counted than can be.
 pub record Good (t : Tracker) : Type 0 where
-  pub settings : GoodSettings t.settings
   pub packet : in_range t.packet ≡ true
   pub count : t.at.count ≤ max_words
   pub stored : GoodStored t.stored

@@ -20,8 +20,8 @@ use Rattle.validators.specs.DataWords as DataWords
 use Rattle.tdh_validator.specs.Tdh as Tdh
 use Rattle.cdp_running.specs.declared.Tracker.{Tracker}
 use Rattle.cdp_running.specs.declared.Taken.{Taken}
-use Rattle.cdp_running.specs.declared.Told.TheVariants as T
-use Rattle.cdp_running.specs.declared.WordAnswer.{WordAnswer}
+use Rattle.cdp_running.specs.Told as T
+use Rattle.cdp_running.specs.Told.{WordAnswer}
 use Rattle.cdp_running.specs.Tracker.{Good}
 use Rattle.cdp_running.specs.Next.{next_tracker}
 

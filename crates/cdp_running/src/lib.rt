@@ -1,23 +1,16 @@
-// The tracker and its calls: start, packet, word, reset. The call for a whole payload stands above, in the crate payload.
+// The tracker and its calls: start, packet, reset. The word call stands above, in the crate tracker_memory, and that for a whole payload in payload.
 // Document 01, "Calls and settings" and "Records"; the Rust's cdp_running.rs.
 #![tactic(auto)]
 
 ghost use Rattle.std.specs.Prelude.{◌≡◌};
-ghost use Rattle.records.specs.Records.{padded};
 ghost use Rattle.cdp_running.specs.Tracker.{Good, start_of, reset_of, PacketPost};
-ghost use Rattle.cdp_running.specs.Answer.{numbers_of};
-ghost use Rattle.cdp_running.specs.Word.{position_now, rows_of, Outcome, word_answer, WordPost};
+ghost use Rattle.cdp_running.specs.Told.{packet_answered};
+ghost use Rattle.cdp_running.specs.Word.{position_now};
 
-mod next;
-
-use packet::{
-    MAX_WORDS, MOST_PACKETS, Packet, REFUSED_FULL, REFUSED_LAST_PACKET, REFUSED_NO_PACKET,
-    REFUSED_PACKET, REFUSED_ROOM, Settings,
-};
-use payload_fsm::{Advanced, ItsPayloadFsmContinuous, ItsPayloadWord};
-use records::{MOST_RECORDS, Row, Written};
+use packet::{MOST_PACKETS, Packet, Settings};
+use payload_fsm::{ItsPayloadFsmContinuous, ItsPayloadWord};
+use refusals::Refusal;
 use stored::{Frame, FrameTold, InternalTdh, Stored, StoredCdw, StoredIhw, StoredTdh};
-use words::{FromBuf, Word};
 
 // Where in the words the tracker is: the state, how many of the packet's words were taken, and whether data was among them.
 #[derive(Clone, Copy)]
@@ -49,104 +42,13 @@ pub struct Taken {
     pub lanes: u32,
 }
 
-// What a word call tells: of a word that was taken, or the number of the refusal.
-#[derive(Clone, Copy)]
-pub enum Told {
-    Taken(Taken),
-    Refused(u8),
-}
-
-impl Told {
-    // How many records were written.
-    pub fn records(self) -> u64
-        ensures { result ≡ (numbers_of self).records }
-    {
-        match self {
-            Told::Taken(taken) => taken.records,
-            Told::Refused(_) => 0,
-        }
-    }
-
-    // The number of the refusal, or 0.
-    pub fn refusal(self) -> u8
-        ensures { result ≡ (numbers_of self).refusal }
-    {
-        match self {
-            Told::Taken(_) => 0,
-            Told::Refused(n) => n,
-        }
-    }
-}
-
-#[derive(Clone, Copy)]
-pub struct WordAnswer {
-    pub tracker: Tracker,
-    pub told: Told,
-}
-
-// Refusal 0: the packet was accepted.
-#[derive(Clone, Copy)]
-pub struct PacketAnswer {
-    pub tracker: Tracker,
-    pub refusal: u8,
-}
-
-// The rows of a word, by what it was taken as. in_place has the same choice on the numbers of an array, for speed, with the question before it whether any
-// row holds.
-fn rows_of(t: Tracker, a: Advanced, word: Word) -> [Row; MOST_RECORDS]
-    ensures { result ≡ padded (rows_of t a word) }
-{
-    let kind = a.word;
-    match kind {
-        ItsPayloadWord::Ihw => {
-            let fsm = t.at.fsm;
-            let state = fsm.state;
-            let three = state.is_three();
-            validators::ihw::check_at_initial_ihw(t.settings, t.packet, three, word)
-        }
-        ItsPayloadWord::IhwContinuation => validators::ihw::check_continuation(word),
-        ItsPayloadWord::Tdh => {
-            tdh_validator::check_tdh_no_continuation(t.settings, t.packet, t.stored.internal, word)
-        }
-        ItsPayloadWord::TdhAfterPacketDone => {
-            tdh_validator::check_after_tdt_packet_done_true(
-                t.settings,
-                t.stored.tdh,
-                t.stored.internal,
-                word,
-            )
-        }
-        ItsPayloadWord::TdhContinuation => {
-            tdh_validator::check_continuation(t.settings, t.stored.tdh, word)
-        }
-        ItsPayloadWord::DataWord | ItsPayloadWord::Cdw => {
-            let lanes = t.stored.ihw.lanes;
-            let cdw = t.stored.cdw;
-            validators::data_words::check(t.settings, t.at.seen, lanes, cdw, a.guessed, word)
-        }
-        ItsPayloadWord::Tdt => validators::tdt::check(t.settings, t.frame.opened, word),
-        ItsPayloadWord::Ddw0 => {
-            validators::ddw::check_at_ddw0(t.settings, t.packet, a.guessed, word)
-        }
-    }
-}
-
-fn refused(t: Tracker, n: u8) -> WordAnswer
-    ensures { result ≡ word_answer t (Outcome.refused n) }
-{
-    WordAnswer {
-        tracker: t,
-        told: Told::Refused(n),
-    }
-}
-
 impl Tracker {
-    // The start: nothing stored, in the start state, with no packet. A period that is absent counts as 0.
+    // The start: nothing stored, in the start state, with no packet.
     pub fn start(settings: Settings) -> Tracker
         ensures { (result ≡ start_of settings) × Good result }
     {
         Tracker {
-            settings: settings.kept(),
+            settings,
             accepted: false,
             packets: 0,
             packet: Packet {
@@ -199,23 +101,17 @@ impl Tracker {
         packet::position(self.packet, self.at.count)
     }
 
-    // A packet: where its words stand and what they are checked against. Refusals 5 and 10 leave everything.
+    // A packet: where its words stand and what they are checked against. Refusals: Packet where a field is out of its range, then LastPacket.
     #[tactic(auto, using(crate::proofs::Calls::packet_5, crate::proofs::Calls::packet_10))]
-    pub fn packet(self, packet: Packet) -> PacketAnswer
+    pub fn packet(self, packet: Packet) -> Result<Tracker, Refusal>
         requires { Good self }
-        ensures { PacketPost self packet result }
+        ensures { PacketPost self packet (packet_answered self result) }
     {
         if !packet::in_range(packet) {
-            return PacketAnswer {
-                tracker: self,
-                refusal: REFUSED_PACKET,
-            };
+            return Err(Refusal::Packet);
         }
         if self.packets >= MOST_PACKETS {
-            return PacketAnswer {
-                tracker: self,
-                refusal: REFUSED_LAST_PACKET,
-            };
+            return Err(Refusal::LastPacket);
         }
         let mut t = self;
         t.accepted = true;
@@ -223,10 +119,7 @@ impl Tracker {
         t.packet = packet;
         t.at.count = 0;
         t.at.seen = false;
-        PacketAnswer {
-            tracker: t,
-            refusal: 0,
-        }
+        Ok(t)
     }
 
     // Back to the start state. All else is kept.
@@ -242,29 +135,5 @@ impl Tracker {
         };
         t.at = at;
         t
-    }
-
-    // One word: its records stand at the front of out, whose rest stays. A refusal leaves both.
-    #[tactic(auto, using(crate::proofs::Calls::full_is, records::proofs::Given::flat_none))]
-    pub fn word(self, bytes: &[u8], out: &mut [u64]) -> WordAnswer
-        requires { Good self }
-        ensures { WordPost self bytes.now out.old result out.new }
-    {
-        let FromBuf::Is(word) = Word::from_buf(bytes) else {
-            return refused(self, Word::REFUSED_SIZE);
-        };
-        if !self.accepted {
-            return refused(self, REFUSED_NO_PACKET);
-        }
-        if self.at.count >= MAX_WORDS {
-            return refused(self, REFUSED_FULL);
-        }
-        let a = self.at.fsm.advance(word);
-        let rows = rows_of(self, a, word);
-        let here = self.here();
-        let Written::Records(n) = records::write(out, here, self.packets as u64, rows) else {
-            return refused(self, REFUSED_ROOM);
-        };
-        next::taken(self, a, word, n)
     }
 }

@@ -1,21 +1,26 @@
-// Two bench files compared, place by place, and what is printed of it, step by step into a lent buffer. Document 02, ticket 5.
+// Two bench files compared, place by place, and what is printed of it, step by step into a lent buffer, or all of it to a writer. Document 02, ticket 5.
 #![tactic(auto)]
 
-ghost use Rattle.std.specs.Prelude.{◌≡◌, true, ◌+◌, ◌<◌, ◌≤◌, ◌^◌, min, length};
+ghost use Rattle.std.specs.Prelude.{◌≡◌, true, ◌+◌, ◌<◌, ◌≤◌, ◌^◌, length, OnOk};
+ghost use Rattle.std.specs.Io.KnownBytes.{Appends};
+ghost use Rattle.std.proofs.Common.{rules};
+ghost use Rattle.refusals.specs.Refusals.{code};
 ghost use Rattle.words.specs.Word.{word_bytes};
 ghost use Rattle.words.specs.LittleEndian.{number_at};
 ghost use Rattle.bench_file.specs.File.{header_bytes, packet_at, count_at, word_place};
 ghost use Rattle.bench_file.specs.Reader.{has_packet, has_word};
 ghost use Rattle.ascii.specs.Steps.{Prints, StepPost};
 ghost use Rattle.comparison.specs.Compare.{refusal_of, common, field_of};
-ghost use Rattle.comparison.specs.Text.{most_printed};
-ghost use Rattle.comparison.specs.Listing.{first_stage, is_done, start_listing, done_listing, tell, packets_step, words_step, counts_step, packet_step};
+ghost use Rattle.comparison.specs.Text.{text, most_printed};
+ghost use Rattle.comparison.specs.Listing.{first_stage, is_done, most_left, start_listing, standing, tell, packets_step, words_step, counts_step, packet_step};
 ghost use Rattle.comparison.specs.Listing.{fields_step, bytes_step, step_of, Both, AtCount, AtPacket, AtField, AtByte, Good, printer};
 
 mod text;
 
-use bench_file::Found;
-use packet::{Packet, REFUSED_FILE};
+use ascii::printing::{self, ByStep, Filled};
+use packet::Packet;
+use refusals::Refusal;
+use std::io::{self, Write};
 use words::Word;
 
 // The longest file that is compared.
@@ -45,6 +50,7 @@ pub struct Place {
     pub second: u64,
 }
 
+// Steps: `Listing::step` (docs/READING.md) and the theorems on its steps (docs/TRUST.md) may not change; `print` below is the one function over them.
 // What is looked at next: the packet counts, the word counts, a packet's count, whether there is one packet more, a field of it, a byte of its words;
 // or how many differences there are, the refusal of a file, or nothing more.
 #[derive(Clone, Copy)]
@@ -56,7 +62,7 @@ pub enum Stage {
     Fields,
     Bytes,
     Last,
-    Refused { number: u8, file: u8 },
+    Refused { refusal: Refusal, file: u8 },
     Done,
 }
 
@@ -71,65 +77,26 @@ pub struct Listing {
     pub count: u64,
 }
 
-// The listing after a step, and how many bytes of a buffer the step's line has.
-#[derive(Clone, Copy)]
-pub struct Filled {
-    pub listing: Listing,
-    pub n: usize,
-}
-
-// The refusal of a file: 6 where it is too long to be compared, else as for one file; or 0.
+// The refusal of a file: 6 where it is too long to be compared, else as for one file.
 #[tactic(auto, unfolding(crate::specs::Compare::refusal_of))]
-pub fn check(file: &[u8]) -> u8
-    ensures { result ≡ refusal_of file.now }
+pub fn check(file: &[u8]) -> Result<(), Refusal>
+    ensures { code result ≡ refusal_of file.now }
 {
     if MOST_BYTES < file.len() {
-        return REFUSED_FILE;
+        return Err(Refusal::File);
     }
     bench_file::check(file)
 }
 
 // The first file's refusal comes first.
-fn first_stage(first: u8, second: u8) -> Stage
-    ensures { result ≡ first_stage first second }
+fn first_stage(first: Result<(), Refusal>, second: Result<(), Refusal>) -> Stage
+    ensures { result ≡ first_stage (code first) (code second) }
 {
-    if first == 0 {
-        if second == 0 {
-            Stage::Packets
-        } else {
-            Stage::Refused {
-                number: second,
-                file: 1,
-            }
-        }
-    } else {
-        Stage::Refused {
-            number: first,
-            file: 0,
-        }
+    match (first, second) {
+        (Err(refusal), _) => Stage::Refused { refusal, file: 0 },
+        (Ok(()), Err(refusal)) => Stage::Refused { refusal, file: 1 },
+        (Ok(()), Ok(())) => Stage::Packets,
     }
-}
-
-fn is_done(stage: Stage) -> bool
-    ensures { result ≡ is_done stage }
-{
-    match stage {
-        Stage::Packets => false,
-        Stage::Words => false,
-        Stage::Counts => false,
-        Stage::Packet => false,
-        Stage::Fields => false,
-        Stage::Bytes => false,
-        Stage::Last => false,
-        Stage::Refused { number: _, file: _ } => false,
-        Stage::Done => true,
-    }
-}
-
-fn smaller(x: u64, y: u64) -> u64
-    ensures { result ≡ min x y }
-{
-    if x < y { x } else { y }
 }
 
 // How many packets both files have.
@@ -139,7 +106,7 @@ fn common_packets(a: &[u8], b: &[u8]) -> usize
     requires header_bytes_in_bounds_2 { header_bytes ≤ length b.now }
     ensures { result ≡ common a.now b.now }
 {
-    smaller(bench_file::packet_count(a), bench_file::packet_count(b)) as usize
+    bench_file::packet_count(a).min(bench_file::packet_count(b)) as usize
 }
 
 // The word count of a packet that the file has.
@@ -148,31 +115,22 @@ fn count_at(file: &[u8], packet: usize) -> u64
     ensures value { result ≡ count_at file.now packet }
     ensures upper_bound { result < 2 ^ 16 }
 {
-    match bench_file::packet_at(file, packet) {
-        Found::Packet { packet: _, words } => words as u64,
-        Found::Word { at: _ } => 0,
-        Found::End => 0,
-    }
+    let (_, words) = bench_file::packet_at(file, packet).unwrap();
+    words as u64
 }
 
 // A field of a packet by its place in the layout.
 fn field_of(packet: Packet, field: usize) -> u64
     ensures { result ≡ field_of packet field }
 {
-    if field == 0 {
-        packet.position
-    } else if field == 1 {
-        packet.orbit as u64
-    } else if field == 2 {
-        packet.trigger as u64
-    } else if field == 3 {
-        packet.bc as u64
-    } else if field == 4 {
-        packet.page as u64
-    } else if field == 5 {
-        packet.stop as u64
-    } else {
-        packet.format as u64
+    match field {
+        0 => packet.position,
+        1 => packet.orbit as u64,
+        2 => packet.trigger as u64,
+        3 => packet.bc as u64,
+        4 => packet.page as u64,
+        5 => packet.stop as u64,
+        _ => packet.format as u64,
     }
 }
 
@@ -181,11 +139,8 @@ fn field_at(file: &[u8], packet: usize, field: usize) -> u64
     requires { has_packet file.now packet ≡ true }
     ensures { result ≡ field_of (packet_at file.now packet) field }
 {
-    match bench_file::packet_at(file, packet) {
-        Found::Packet { packet, words: _ } => field_of(packet, field),
-        Found::Word { at: _ } => 0,
-        Found::End => 0,
-    }
+    let (packet, _) = bench_file::packet_at(file, packet).unwrap();
+    field_of(packet, field)
 }
 
 // A byte of a word that the file has, the word by its number in the whole file.
@@ -195,13 +150,20 @@ fn byte_at(file: &[u8], word: usize, byte: usize) -> u8
     requires byte_lt_word_bytes { byte < word_bytes }
     ensures { result ≡ number_at file.now (word_place file.now word + byte) 1 }
 {
-    match bench_file::word_at(file, word) {
-        Found::Word { at } => file[at + byte],
-        Found::Packet {
-            packet: _,
-            words: _,
-        } => 0,
-        Found::End => 0,
+    file[bench_file::word_at(file, word).unwrap() + byte]
+}
+
+// A stage at the front of both files.
+fn begin(stage: Stage, count: u64) -> Listing
+    ensures { result ≡ standing stage 0 0 0 0 count }
+{
+    Listing {
+        stage,
+        packet: 0,
+        part: 0,
+        first: 0,
+        second: 0,
+        count,
     }
 }
 
@@ -210,94 +172,64 @@ fn counted(l: Listing) -> Listing
     requires { l.count < 2 ^ 32 }
     ensures { result ≡ record { stage = l.stage; packet = l.packet; part = l.part; first = l.first; second = l.second; count = l.count + 1 } }
 {
-    let stage = l.stage;
     Listing {
-        stage: stage,
-        packet: l.packet,
-        part: l.part,
-        first: l.first,
-        second: l.second,
         count: l.count + 1,
+        ..l
     }
 }
 
 // A place was looked at: where its numbers differ, its line is printed and counted.
-fn told(next: Listing, place: Place, out: &mut [u8]) -> Filled
+fn told(next: Listing, place: Place, out: &mut [u8]) -> Filled<Listing>
     requires count_bound { next.count < 2 ^ 32 }
     requires most_printed_in_bounds { most_printed ≤ length out.old }
-    ensures { Prints (tell next place) out.old result.listing result.n out.new }
+    ensures { Prints (tell next place) out.old result.next result.n out.new }
 {
     if place.first == place.second {
-        Filled {
-            listing: next,
-            n: 0,
-        }
+        Filled { next: next, n: 0 }
     } else {
         Filled {
             n: text::put_place(out, place),
-            listing: counted(next),
+            next: counted(next),
         }
     }
 }
 
 #[tactic(auto, using(crate::proofs::Looking::counted_there, crate::proofs::Looking::header, crate::proofs::Looking::packets_looked))]
-fn packets_step(l: Listing, a: &[u8], b: &[u8], out: &mut [u8]) -> Filled
+fn packets_step(l: Listing, a: &[u8], b: &[u8], out: &mut [u8]) -> Filled<Listing>
     requires both { Both a.now b.now }
     requires count_bound { l.count < 2 ^ 32 }
     requires most_printed_in_bounds { most_printed ≤ length out.old }
-    ensures { Prints (packets_step a.now b.now l) out.old result.listing result.n out.new }
+    ensures { Prints (packets_step a.now b.now l) out.old result.next result.n out.new }
 {
     let place = Place {
         at: Where::Packets,
         first: bench_file::packet_count(a),
         second: bench_file::packet_count(b),
     };
-    told(
-        Listing {
-            stage: Stage::Words,
-            packet: 0,
-            part: 0,
-            first: 0,
-            second: 0,
-            count: l.count,
-        },
-        place,
-        out,
-    )
+    told(begin(Stage::Words, l.count), place, out)
 }
 
 #[tactic(auto, using(crate::proofs::Looking::counted_there, crate::proofs::Looking::header, crate::proofs::Looking::words_looked))]
-fn words_step(l: Listing, a: &[u8], b: &[u8], out: &mut [u8]) -> Filled
+fn words_step(l: Listing, a: &[u8], b: &[u8], out: &mut [u8]) -> Filled<Listing>
     requires both { Both a.now b.now }
     requires count_bound { l.count < 2 ^ 32 }
     requires most_printed_in_bounds { most_printed ≤ length out.old }
-    ensures { Prints (words_step a.now b.now l) out.old result.listing result.n out.new }
+    ensures { Prints (words_step a.now b.now l) out.old result.next result.n out.new }
 {
     let place = Place {
         at: Where::Words,
         first: bench_file::word_count(a),
         second: bench_file::word_count(b),
     };
-    told(
-        Listing {
-            stage: Stage::Counts,
-            packet: 0,
-            part: 0,
-            first: 0,
-            second: 0,
-            count: l.count,
-        },
-        place,
-        out,
-    )
+    told(begin(Stage::Counts, l.count), place, out)
 }
 
 #[tactic(auto, using(crate::proofs::Looking::header, crate::proofs::Looking::both_have))]
-fn counts_step(l: Listing, a: &[u8], b: &[u8], out: &mut [u8]) -> Filled
+fn counts_step(l: Listing, a: &[u8], b: &[u8], out: &mut [u8]) -> Filled<Listing>
     requires at_count { AtCount a.now b.now l }
     requires count_bound { l.count < 2 ^ 32 }
     requires most_printed_in_bounds { most_printed ≤ length out.old }
-    ensures { Prints (counts_step a.now b.now l) out.old result.listing result.n out.new }
+    ensures { Prints (counts_step a.now b.now l) out.old result.next result.n out.new }
 {
     if l.packet < common_packets(a, b) {
         let place = Place {
@@ -309,26 +241,15 @@ fn counts_step(l: Listing, a: &[u8], b: &[u8], out: &mut [u8]) -> Filled
         };
         told(
             Listing {
-                stage: Stage::Counts,
                 packet: l.packet + 1,
-                part: 0,
-                first: 0,
-                second: 0,
-                count: l.count,
+                ..begin(Stage::Counts, l.count)
             },
             place,
             out,
         )
     } else {
         Filled {
-            listing: Listing {
-                stage: Stage::Packet,
-                packet: 0,
-                part: 0,
-                first: 0,
-                second: 0,
-                count: l.count,
-            },
+            next: begin(Stage::Packet, l.count),
             n: 0,
         }
     }
@@ -342,30 +263,20 @@ fn packet_step(l: Listing, a: &[u8], b: &[u8]) -> Listing
     if l.packet < common_packets(a, b) {
         Listing {
             stage: Stage::Fields,
-            packet: l.packet,
             part: 0,
-            first: l.first,
-            second: l.second,
-            count: l.count,
+            ..l
         }
     } else {
-        Listing {
-            stage: Stage::Last,
-            packet: 0,
-            part: 0,
-            first: 0,
-            second: 0,
-            count: l.count,
-        }
+        begin(Stage::Last, l.count)
     }
 }
 
 #[tactic(auto, using(crate::proofs::Looking::both_have))]
-fn fields_step(l: Listing, a: &[u8], b: &[u8], out: &mut [u8]) -> Filled
+fn fields_step(l: Listing, a: &[u8], b: &[u8], out: &mut [u8]) -> Filled<Listing>
     requires at_field { AtField a.now b.now l }
     requires count_bound { l.count < 2 ^ 32 }
     requires most_printed_in_bounds { most_printed ≤ length out.old }
-    ensures { Prints (fields_step a.now b.now l) out.old result.listing result.n out.new }
+    ensures { Prints (fields_step a.now b.now l) out.old result.next result.n out.new }
 {
     if l.part < FIELDS {
         let place = Place {
@@ -379,24 +290,18 @@ fn fields_step(l: Listing, a: &[u8], b: &[u8], out: &mut [u8]) -> Filled
         told(
             Listing {
                 stage: Stage::Fields,
-                packet: l.packet,
                 part: l.part + 1,
-                first: l.first,
-                second: l.second,
-                count: l.count,
+                ..l
             },
             place,
             out,
         )
     } else {
         Filled {
-            listing: Listing {
+            next: Listing {
                 stage: Stage::Bytes,
-                packet: l.packet,
                 part: 0,
-                first: l.first,
-                second: l.second,
-                count: l.count,
+                ..l
             },
             n: 0,
         }
@@ -404,15 +309,15 @@ fn fields_step(l: Listing, a: &[u8], b: &[u8], out: &mut [u8]) -> Filled
 }
 
 #[tactic(auto, using(crate::proofs::Looking::few, crate::proofs::Looking::both_have, crate::proofs::Looking::both_few, crate::proofs::Looking::both_have_word))]
-fn bytes_step(l: Listing, a: &[u8], b: &[u8], out: &mut [u8]) -> Filled
+fn bytes_step(l: Listing, a: &[u8], b: &[u8], out: &mut [u8]) -> Filled<Listing>
     requires at_byte { AtByte a.now b.now l }
     requires count_bound { l.count < 2 ^ 32 }
     requires most_printed_in_bounds { most_printed ≤ length out.old }
-    ensures { Prints (bytes_step a.now b.now l) out.old result.listing result.n out.new }
+    ensures { Prints (bytes_step a.now b.now l) out.old result.next result.n out.new }
 {
     let first = count_at(a, l.packet);
     let second = count_at(b, l.packet);
-    if l.part < Word::SIZE * smaller(first, second) as usize {
+    if l.part < Word::SIZE * first.min(second) as usize {
         let word = l.part / Word::SIZE;
         let byte = l.part % Word::SIZE;
         let place = Place {
@@ -427,70 +332,52 @@ fn bytes_step(l: Listing, a: &[u8], b: &[u8], out: &mut [u8]) -> Filled
         told(
             Listing {
                 stage: Stage::Bytes,
-                packet: l.packet,
                 part: l.part + 1,
-                first: l.first,
-                second: l.second,
-                count: l.count,
+                ..l
             },
             place,
             out,
         )
     } else {
         Filled {
-            listing: Listing {
+            next: Listing {
                 stage: Stage::Packet,
                 packet: l.packet + 1,
                 part: 0,
                 first: l.first + first as usize,
                 second: l.second + second as usize,
-                count: l.count,
+                ..l
             },
             n: 0,
         }
     }
 }
 
-// The end of a listing.
-fn done(count: u64) -> Listing
-    ensures { result ≡ done_listing count }
-{
-    Listing {
-        stage: Stage::Done,
-        packet: 0,
-        part: 0,
-        first: 0,
-        second: 0,
-        count: count,
-    }
-}
-
 // The step by the stage.
-fn stage_step(l: Listing, a: &[u8], b: &[u8], out: &mut [u8]) -> Filled
+fn stage_step(l: Listing, a: &[u8], b: &[u8], out: &mut [u8]) -> Filled<Listing>
     requires good { Good a.now b.now l }
     requires most_printed_in_bounds { most_printed ≤ length out.old }
-    ensures { Prints (step_of a.now b.now l) out.old result.listing result.n out.new }
+    ensures { Prints (step_of a.now b.now l) out.old result.next result.n out.new }
 {
-    let stage = l.stage;
-    match stage {
+    match l.stage {
         Stage::Packets => packets_step(l, a, b, out),
         Stage::Words => words_step(l, a, b, out),
         Stage::Counts => counts_step(l, a, b, out),
         Stage::Packet => Filled {
-            listing: packet_step(l, a, b),
+            next: packet_step(l, a, b),
             n: 0,
         },
         Stage::Fields => fields_step(l, a, b, out),
         Stage::Bytes => bytes_step(l, a, b, out),
         Stage::Last => Filled {
             n: ascii::put_line(out, b"differences", &[l.count]),
-            listing: done(l.count),
+            next: begin(Stage::Done, l.count),
         },
-        Stage::Refused { number, file } => Filled {
-            n: ascii::put_line(out, b"refused", &[number as u64, file as u64]),
-            listing: done(l.count),
+        Stage::Refused { refusal, file } => Filled {
+            n: ascii::put_line(out, b"refused", &[u8::from(refusal) as u64, file as u64]),
+            next: begin(Stage::Done, l.count),
         },
-        Stage::Done => Filled { listing: l, n: 0 },
+        Stage::Done => Filled { next: l, n: 0 },
     }
 }
 
@@ -501,35 +388,60 @@ impl Listing {
     {
         let first = check(a);
         let second = check(b);
-        Listing {
-            stage: first_stage(first, second),
-            packet: 0,
-            part: 0,
-            first: 0,
-            second: 0,
-            count: 0,
-        }
+        begin(first_stage(first, second), 0)
     }
 
     // Whether all is printed.
     pub fn finished(self) -> bool
         ensures { result ≡ is_done self.stage }
     {
-        let stage = self.stage;
-        is_done(stage)
+        matches!(self.stage, Stage::Done)
     }
 
     // One step: at most one line, at the front of out, whose rest stays. A buffer of at least MOST_PRINTED bytes brings the listing on.
-    pub fn step(self, a: &[u8], b: &[u8], out: &mut [u8]) -> Filled
+    pub fn step(self, a: &[u8], b: &[u8], out: &mut [u8]) -> Filled<Listing>
         requires { Good a.now b.now self }
-        ensures { StepPost (printer a.now b.now) self out.old result.listing result.n out.new }
+        ensures { StepPost (printer a.now b.now) self out.old result.next result.n out.new }
     {
         if out.len() < MOST_PRINTED {
-            return Filled {
-                listing: self,
-                n: 0,
-            };
+            return Filled { next: self, n: 0 };
         }
         stage_step(self, a, b, out)
     }
+}
+
+// The listing of two files, as it is printed by steps.
+#[derive(Drop)]
+struct Files<'a> {
+    a: &'a [u8],
+    b: &'a [u8],
+}
+
+impl ByStep for Files<'_> {
+    type State = Listing;
+
+    ghost printer = { λ it. printer it.a.now it.b.now };
+
+    ghost left = { λ it. most_left it.a.now it.b.now };
+
+    fn most(&self) -> usize {
+        MOST_PRINTED
+    }
+
+    fn finished(&self, listing: Listing) -> bool {
+        listing.finished()
+    }
+
+    fn step(&self, listing: Listing, out: &mut [u8]) -> Filled<Listing> {
+        listing.step(self.a, self.b, out)
+    }
+
+    ghost most_in_bounds = { λ it. Prim.search rules };
+}
+
+// Prints where two files differ, up to a write that fails.
+pub fn print<W: Write>(a: &[u8], b: &[u8], to: &mut W) -> io::Result<()>
+    ensures { OnOk result (Appends (W.contents to.old) (W.contents to.new) (text a.now b.now)) }
+{
+    printing::print(&Files { a, b }, Listing::start(a, b), to)
 }

@@ -1,13 +1,8 @@
 -- A table that is a rule's values, one after the other, has the rule at each entry. That a table of the source is such a list, antt computes. So it does
 -- that two tests of an id are the same.
 -- Assumes nothing.
-use mathlib.Core.Path.{◌≡◌, refl, ap, sym, ◌∙◌}
-use mathlib.Core.Bool.{Bool, true, false, cond}
-use mathlib.Core.List.{List, [], ◌∷◌}
-use Prim.Native.Nat.{ℕ, zero, suc, ◌+◌, ◌<◌}
-use native.Mathlib.Nat.{add-zero, zero-add, add-suc, suc-add, le_of_suc-le-suc, not-suc-le-zero}
-use lib.Dec.{eqb}
-use lib.ListN.{get_or}
+use Rattle.std.proofs.Common.{◌≡◌, refl, ap, sym, ◌∙◌, Bool, true, false, cond, List, [], ◌∷◌, ℕ, zero, suc, ◌+◌, ◌<◌, add-zero, zero-add, add-suc}
+use Rattle.std.proofs.Common.{suc-add, le_of_suc-le-suc, not-suc-le-zero, eqb, get_or}
 
 -- The rule's values at n numbers from i on.
 abbrev pub values : (ℕ → ℕ) → ℕ → ℕ → List ℕ

@@ -2,28 +2,21 @@
 #![tactic(auto)]
 
 ghost use Rattle.std.specs.Prelude.{◌≡◌};
-ghost use Rattle.data_ids.specs.DataIds.{within, is_data_id, inner_lane, outer_lane, input_number, connector, lane_number};
+ghost use Rattle.data_ids.specs.DataIds.{is_data_id, inner_lane, outer_lane, input_number, connector, lane_number};
 
 mod ob_lanes;
 
 use ob_lanes::OB_LANES;
 
-fn within(first: u8, last: u8, id: u8) -> bool
-    ensures { result ≡ within first last id }
-{
-    (first <= id) & (id <= last)
-}
-
 // Whether an id is that of a data word: the Rust's VALID_IL_ID and VALID_OL_CONNECT0_ID to VALID_OL_CONNECT3_ID.
 pub fn is_data_word_id(id: u8) -> bool
     ensures { result ≡ is_data_id id }
 {
-    let il = within(0x20, 0x28, id);
-    let connect0 = within(0x40, 0x46, id);
-    let connect1 = within(0x48, 0x4E, id);
-    let connect2 = within(0x50, 0x56, id);
-    let connect3 = within(0x58, 0x5E, id);
-    il | (connect0 | (connect1 | (connect2 | connect3)))
+    (0x20..=0x28).contains(&id)
+        | (0x40..=0x46).contains(&id)
+        | (0x48..=0x4E).contains(&id)
+        | (0x50..=0x56).contains(&id)
+        | (0x58..=0x5E).contains(&id)
 }
 
 pub fn ib_data_word_id_to_lane(id: u8) -> u8

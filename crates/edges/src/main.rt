@@ -4,12 +4,12 @@
 
 ghost use Rattle.cdp_running.specs.Tracker.{Good};
 
-use cdp_running::{PacketAnswer, Tracker};
+use cdp_running::Tracker;
 use packet::{Packet, Rule, Settings};
 use records::RECORD_WIDTH;
-use report::Report;
-use std::fs;
 use std::rt::Files;
+use std::{fs, io};
+use tracker_memory::WordCall;
 
 // The most numbers that the records of a word have.
 const MOST_NUMBERS: usize = records::MOST_RECORDS * RECORD_WIDTH;
@@ -17,10 +17,7 @@ const MOST_NUMBERS: usize = records::MOST_RECORDS * RECORD_WIDTH;
 // The numbers of two records.
 const TWO_RECORDS: usize = 2 * RECORD_WIDTH;
 
-// How many files there are.
-const FILES: u8 = 69;
-
-// Their names.
+// The names of the files.
 const NAMES: [&str; 69] = [
     "c00", "c01", "c02", "c03", "c04", "c05", "c06", "c07", "c08", "c09", "c10", "c11", "c12",
     "c13", "c14", "c15", "c16", "c17", "c18", "c19", "c20", "c21", "c22", "c23", "c24", "c25",
@@ -40,15 +37,7 @@ fn number(rt: &impl Print, n: u64) {
 
 // The report of a file.
 fn show(rt: &impl Print, file: &[u8]) {
-    let mut out = [0u8; report::MOST_PRINTED];
-    let mut report = Report::start(file);
-    while !report.finished() {
-        let filled = report.step(file, &mut out);
-        let n = filled.n;
-        text(rt, &out[..n]);
-        let next = filled.report;
-        report = next;
-    }
+    let _ = report::print(file, &mut io::writer(rt));
 }
 
 // A file by its name.
@@ -60,15 +49,13 @@ fn show_file(rt: &(impl Print + Files), name: &str) {
         return;
     };
     let mut file = [0u8; 60001];
-    let n = input::read_all(&mut from, &mut file).n;
+    let n = input::read_all(&mut from, &mut file).unwrap_or_else(|failed| failed.read);
     show(rt, &file[..n]);
 }
 
 fn show_files(rt: &(impl Print + Files)) {
-    let mut i: u8 = 0;
-    while i < FILES {
-        show_file(rt, NAMES[i as usize]);
-        i = i + 1;
+    for name in &NAMES {
+        show_file(rt, name);
     }
 }
 
@@ -77,13 +64,12 @@ fn packet_by_rule(running: bool, period: u32, rule: Rule, page: u16) -> Tracker
     ensures { Good result }
 {
     let start = Tracker::start(Settings {
-        running: running,
+        running,
         frames: true,
-        periodic: true,
-        period: period,
-        rule: rule,
+        period: Some(period),
+        rule,
     });
-    let answer = start.packet(Packet {
+    match start.packet(Packet {
         position: 0,
         orbit: 0,
         trigger: 0,
@@ -91,8 +77,21 @@ fn packet_by_rule(running: bool, period: u32, rule: Rule, page: u16) -> Tracker
         page: page,
         stop: 0,
         format: 2,
-    });
-    answer.tracker
+    }) {
+        Ok(taken) => taken,
+        Err(_) => start,
+    }
+}
+
+// The tracker after a word; at a refusal it is as it was.
+fn after_word(t: Tracker, word: &[u8], out: &mut [u64]) -> Tracker
+    requires { Good t }
+    ensures { Good result }
+{
+    match t.word(word, out) {
+        Ok((next, _)) => next,
+        Err(_) => t,
+    }
 }
 
 fn packet_taken(running: bool, period: u32, page: u16) -> Tracker
@@ -105,22 +104,18 @@ fn packet_taken(running: bool, period: u32, page: u16) -> Tracker
 fn show_full(rt: &impl Print) {
     let mut t = packet_taken(true, 198, 0);
     let mut out = [0u64; MOST_NUMBERS];
-    let mut n: u64 = 0;
-    while n < 5000 {
-        let answer = t.word(b"\0\0\0\0\0\0\0\0\0\x20", &mut out);
-        let told = answer.told;
-        let refused = told.refusal() as u64;
-        if refused != 0 {
-            text(rt, b"words ");
-            number(rt, n);
-            text(rt, b" refused ");
-            number(rt, refused);
-            text(rt, b"\n");
-            return;
+    for n in 0..5000 {
+        match t.word(b"\0\0\0\0\0\0\0\0\0\x20", &mut out) {
+            Ok((next, _)) => t = next,
+            Err(refusal) => {
+                text(rt, b"words ");
+                number(rt, n);
+                text(rt, b" refused ");
+                number(rt, u64::from(u8::from(refusal)));
+                text(rt, b"\n");
+                return;
+            }
         }
-        let next = answer.tracker;
-        t = next;
-        n = n + 1;
     }
 }
 
@@ -128,13 +123,19 @@ fn show_full(rt: &impl Print) {
 fn show_room(rt: &impl Print) {
     let t = packet_taken(true, 198, 0);
     let mut small = [0u64; 4];
-    let first = t.word(b"\0\0\0\x10\0\0\0\0\0\xE0", &mut small);
-    let told = first.told;
     text(rt, b"refused ");
-    number(rt, told.refusal() as u64);
-    let after = first.tracker;
+    let after = match t.word(b"\0\0\0\x10\0\0\0\0\0\xE0", &mut small) {
+        Ok((next, _)) => {
+            number(rt, 0);
+            next
+        }
+        Err(refusal) => {
+            number(rt, u64::from(u8::from(refusal)));
+            t
+        }
+    };
     let mut out = [0u64; 5];
-    after.word(b"\0\0\0\x10\0\0\0\0\0\xE0", &mut out);
+    after_word(after, b"\0\0\0\x10\0\0\0\0\0\xE0", &mut out);
     text(rt, b" then ");
     number(rt, out[0]);
     text(rt, b" ");
@@ -164,9 +165,9 @@ fn tdh_taken(period: u32, page: u16) -> Tracker
     ensures { Good result }
 {
     let mut out = [0u64; TWO_RECORDS];
-    let begun = packet_taken(true, period, page).word(b"\0\0\0\0\0\0\0\0\0\xE0", &mut out);
-    let answer = begun.tracker.word(b"\0\x30\0\0\0\0\0\0\0\xE8", &mut out);
-    answer.tracker
+    let t = packet_taken(true, period, page);
+    let begun = after_word(t, b"\0\0\0\0\0\0\0\0\0\xE0", &mut out);
+    after_word(begun, b"\0\x30\0\0\0\0\0\0\0\xE8", &mut out)
 }
 
 // "For legal BCs a set period of 3564 always differs": after an IHW and a TDH with BC 0, TDHs at the distances 0, 1 .. 3563.
@@ -175,22 +176,18 @@ fn show_period(rt: &impl Print) {
     let mut bc: u64 = 0;
     let mut differ: u64 = 0;
     let mut sum: u64 = 0;
-    let mut k: u64 = 0;
-    while k < 3564 {
+    for k in 0..3564 {
         bc = (bc + k) % 3564;
         let mut word = [0, 0x30, 0, 0, 0, 0, 0, 0, 0, 0xE8];
         word[2] = (bc % 256) as u8;
         word[3] = (bc / 256) as u8;
         let mut out = [0u64; TWO_RECORDS];
-        let answer = t.word(&word, &mut out);
+        t = after_word(t, &word, &mut out);
         let period = found(out);
         if period < 3564 {
             differ = differ + 1;
             sum = sum + period;
         }
-        let next = answer.tracker;
-        t = next;
-        k = k + 1;
     }
     text(rt, b"differ ");
     number(rt, differ);
@@ -204,7 +201,7 @@ fn code_at_ihw(t: Tracker) -> u64
     requires { Good t }
 {
     let mut out = [0u64; TWO_RECORDS];
-    t.word(b"\0\0\0\0\0\0\0\0\0\xE0", &mut out);
+    after_word(t, b"\0\0\0\0\0\0\0\0\0\xE0", &mut out);
     out[1]
 }
 
@@ -233,12 +230,13 @@ fn show_code(rt: &impl Print, code: u64) {
 // The codes of a word with an id in DATA_, behind an IHW with lanes 8 and 9.
 fn show_codes(rt: &impl Print, running: bool, id: u8) {
     let mut before = [0u64; MOST_NUMBERS];
-    let begun = packet_taken(running, 198, 0).word(b"\0\x03\0\0\0\0\0\0\0\xE0", &mut before);
-    let ready = begun.tracker.word(b"\0\x10\0\0\0\0\0\0\0\xE8", &mut before);
+    let t = packet_taken(running, 198, 0);
+    let begun = after_word(t, b"\0\x03\0\0\0\0\0\0\0\xE0", &mut before);
+    let ready = after_word(begun, b"\0\x10\0\0\0\0\0\0\0\xE8", &mut before);
     let mut word = [0u8; 10];
     word[9] = id;
     let mut out = [0u64; MOST_NUMBERS];
-    ready.tracker.word(&word, &mut out);
+    after_word(ready, &word, &mut out);
     show_code(rt, out[1]);
     show_code(rt, out[RECORD_WIDTH + 1]);
     show_code(rt, out[2 * RECORD_WIDTH + 1]);
@@ -258,12 +256,12 @@ fn show_lane(rt: &impl Print, id: u8) {
     text(rt, b"\n");
 }
 
-// Another packet of the same position. A BC above 4095 is refused.
-fn next_packet(t: Tracker, bc: u16) -> PacketAnswer
+// Another packet of the same position: the tracker after it, and 0. A BC above 4095 is refused: the tracker as it was, and the refusal's number.
+fn next_packet(t: Tracker, bc: u16) -> (Tracker, u64)
     requires { Good t }
-    ensures { Good result.tracker }
+    ensures { Good result.0 }
 {
-    t.packet(Packet {
+    match t.packet(Packet {
         position: 0,
         orbit: 0,
         trigger: 0,
@@ -271,7 +269,10 @@ fn next_packet(t: Tracker, bc: u16) -> PacketAnswer
         page: 0,
         stop: 0,
         format: 2,
-    })
+    }) {
+        Ok(next) => (next, 0),
+        Err(refusal) => (t, u64::from(u8::from(refusal))),
+    }
 }
 
 // The packet that the record of an IHW with a reserved bit says.
@@ -279,29 +280,29 @@ fn packet_at_ihw(t: Tracker) -> u64
     requires { Good t }
 {
     let mut out = [0u64; TWO_RECORDS];
-    t.word(b"\0\0\0\x10\0\0\0\0\0\xE0", &mut out);
+    after_word(t, b"\0\0\0\x10\0\0\0\0\0\xE0", &mut out);
     out[4]
 }
 
 // "The count of packets accepted since the start": one that is refused does not count, and a reset keeps the count.
 fn show_packets(rt: &impl Print) {
     let first = packet_taken(true, 198, 0);
-    let refused = next_packet(first, 4096);
-    let second = next_packet(refused.tracker, 0);
-    let reset = second.tracker.reset();
-    let third = next_packet(reset, 0);
+    let (still, refused) = next_packet(first, 4096);
+    let (second, _) = next_packet(still, 0);
+    let reset = second.reset();
+    let (third, _) = next_packet(reset, 0);
     text(rt, b"packet ");
     number(rt, packet_at_ihw(first));
     text(rt, b" refused ");
-    number(rt, refused.refusal as u64);
+    number(rt, refused);
     text(rt, b" still ");
-    number(rt, packet_at_ihw(refused.tracker));
+    number(rt, packet_at_ihw(still));
     text(rt, b" next ");
-    number(rt, packet_at_ihw(second.tracker));
+    number(rt, packet_at_ihw(second));
     text(rt, b" reset ");
     number(rt, packet_at_ihw(reset));
     text(rt, b" next ");
-    number(rt, packet_at_ihw(third.tracker));
+    number(rt, packet_at_ihw(third));
     text(rt, b"\n");
 }
 
@@ -356,15 +357,11 @@ fn show_records(
     next_bc: u32,
 ) {
     let mut out = [0u64; MOST_NUMBERS];
-    let begun = packet_by_rule(true, set, rule_of(rule), 0).word(
-        b"\0\0\0\0\0\0\0\0\0\xE0",
-        &mut out,
-    );
-    let earlier = begun.tracker.word(&internal_tdh(orbit, bc), &mut out);
+    let t = packet_by_rule(true, set, rule_of(rule), 0);
+    let begun = after_word(t, b"\0\0\0\0\0\0\0\0\0\xE0", &mut out);
+    let earlier = after_word(begun, &internal_tdh(orbit, bc), &mut out);
     let mut told = [0u64; MOST_NUMBERS];
-    earlier
-        .tracker
-        .word(&internal_tdh(next_orbit, next_bc), &mut told);
+    after_word(earlier, &internal_tdh(next_orbit, next_bc), &mut told);
     show_record(rt, told[1], told[2], told[3]);
     show_record(
         rt,

@@ -2,7 +2,7 @@
 // input is not shown. A bench file is not shown at all: its header and packets are no words.
 #![tactic(auto)]
 
-ghost use Rattle.std.specs.Prelude.{◌+◌, ◌<◌, ◌≤◌, length};
+ghost use Rattle.std.specs.Prelude.{◌<◌, ◌^◌, IfSome};
 
 use payload_fsm::{Advanced, ItsPayloadFsmContinuous, ItsPayloadWord};
 use words::Word;
@@ -10,6 +10,8 @@ use words::cdw::Cdw;
 use words::ddw::Ddw0;
 use words::ihw::Ihw;
 use words::lanes::lane_answer;
+use words::little_endian::get;
+use words::status_word::StatusWord;
 use words::tdh::Tdh;
 use words::tdt::Tdt;
 
@@ -28,7 +30,7 @@ fn field(rt: &impl Print, name: &[u8], n: u64) {
 }
 
 fn show_ihw(rt: &impl Print, name: &[u8], word: Word) {
-    let ihw = Ihw { word: word };
+    let ihw = Ihw { word };
     let lanes = ihw.read();
     text(rt, name);
     field(rt, b"active_lanes", lanes.active as u64);
@@ -36,7 +38,7 @@ fn show_ihw(rt: &impl Print, name: &[u8], word: Word) {
 }
 
 fn show_tdh(rt: &impl Print, name: &[u8], word: Word) {
-    let tdh = Tdh { word: word };
+    let tdh = Tdh { word };
     text(rt, name);
     field(rt, b"trigger_type", tdh.trigger_type() as u64);
     field(rt, b"internal_trigger", tdh.internal_trigger() as u64);
@@ -47,7 +49,7 @@ fn show_tdh(rt: &impl Print, name: &[u8], word: Word) {
 }
 
 fn show_tdt(rt: &impl Print, word: Word) {
-    let tdt = Tdt { word: word };
+    let tdt = Tdt { word };
     text(rt, b" TDT");
     field(rt, b"packet_done", tdt.packet_done() as u64);
     field(
@@ -58,7 +60,7 @@ fn show_tdt(rt: &impl Print, word: Word) {
 }
 
 fn show_ddw0(rt: &impl Print, word: Word) {
-    let ddw0 = Ddw0 { word: word };
+    let ddw0 = Ddw0 { word };
     text(rt, b" DDW0");
     field(rt, b"index", ddw0.index() as u64);
     field(
@@ -69,7 +71,7 @@ fn show_ddw0(rt: &impl Print, word: Word) {
 }
 
 fn show_cdw(rt: &impl Print, word: Word) {
-    let cdw = Cdw { word: word };
+    let cdw = Cdw { word };
     text(rt, b" CDW");
     field(
         rt,
@@ -167,8 +169,8 @@ fn show(rt: &impl Print, a: Advanced, word: Word) {
 // All whole words.
 fn show_words(rt: &impl Print, bytes: &[u8]) {
     let mut fsm = ItsPayloadFsmContinuous::new();
-    for i in 0..bytes.len() / Word::SIZE {
-        let word = Word::load_at(bytes, Word::SIZE * i);
+    for bytes in bytes.chunks_exact(Word::SIZE) {
+        let word = Word::load_at(bytes, 0);
         let a = fsm.advance(word);
         show(rt, a, word);
         fsm = a.fsm;
@@ -189,44 +191,27 @@ fn show_rest(rt: &impl Print, got: usize) {
     }
 }
 
-fn wide(b: u8) -> u64
-    ensures { result < 256 }
-{
-    b as u64
-}
-
-// The number of four bytes at a place.
-fn number(bytes: &[u8], at: usize) -> u64
-    requires { at + 4 ≤ length bytes.now }
-    ensures { result < 4294967296 }
-{
-    wide(bytes[at])
-        + 0x100 * wide(bytes[at + 1])
-        + 0x1_0000 * wide(bytes[at + 2])
-        + 0x100_0000 * wide(bytes[at + 3])
-}
-
-// Where the words begin, if the input begins with the header of a bench file; else 0.
+// Where the words begin, if the input begins with the header of a bench file.
 // 01, "Bench file": "packet offset 16, word offset 16 + 24 times packets".
-fn words_of_file(bytes: &[u8]) -> u64
-    ensures { result < 4294967296 }
+fn words_of_file(bytes: &[u8]) -> Option<u64>
+    ensures { IfSome result (λ place. place < 2 ^ 32) }
 {
     if bytes.len() < 16 {
-        return 0;
+        return None;
     }
-    let packets = number(bytes, 0);
-    let packets_at = number(bytes, 8);
-    let words_at = number(bytes, 12);
-    if (packets_at == 16) & (words_at == 16 + 24 * packets) {
-        words_at
+    let packets = get::<4>(bytes, 0);
+    let packets_at = get::<4>(bytes, 8);
+    let words_at = get::<4>(bytes, 12);
+    if packets_at == 16 && words_at == 16 + 24 * packets {
+        Some(words_at)
     } else {
-        0
+        None
     }
 }
 
 // A bench file, whose words begin at a place.
 fn show_file(rt: &impl Print, place: u64)
-    requires { place < 4294967296 }
+    requires { place < 2 ^ 32 }
 {
     text(
         rt,
@@ -237,8 +222,7 @@ fn show_file(rt: &impl Print, place: u64)
 }
 
 fn show_input(rt: &impl Print, bytes: &[u8]) {
-    let place = words_of_file(bytes);
-    if place != 0 {
+    if let Some(place) = words_of_file(bytes) {
         show_file(rt, place);
         return;
     }
@@ -249,6 +233,6 @@ fn show_input(rt: &impl Print, bytes: &[u8]) {
 fn main(rt: HostRuntime) {
     // One byte more than is shown, so that more is seen to be more.
     let mut bytes = [0u8; 40961];
-    let got = input::read_all(&mut rt.stdin(), &mut bytes).n;
+    let got = input::read_all(&mut rt.stdin(), &mut bytes).unwrap_or_else(|failed| failed.read);
     show_input(&rt, &bytes[..got]);
 }

@@ -15,7 +15,7 @@ use Rattle.packet.specs.Packet.{in_range}
 use Rattle.words.specs.Lists.{Each}
 use Rattle.records.specs.Records.{room, most_records}
 use Rattle.cdp_running.specs.declared.Tracker.{Tracker}
-use Rattle.cdp_running.specs.declared.PacketAnswer.{PacketAnswer}
+use Rattle.cdp_running.specs.Told.{PacketAnswer}
 use Rattle.cdp_running.specs.Tracker.{accept_of, reset_of, packet_call}
 use Rattle.cdp_running.specs.Word as Word
 use Rattle.cdp_running.specs.Word.{Outcome, refused, word_call}

@@ -16,8 +16,8 @@ use Rattle.records.specs.declared.Row.{Row}
 use Rattle.records.specs.Records.{Record, record_at, record_width, flat, given, exceed, room}
 use Rattle.records.proofs.Given.{counted, length_flat}
 use Rattle.cdp_running.specs.declared.Tracker.{Tracker}
-use Rattle.cdp_running.specs.declared.Told.TheVariants as T
-use Rattle.cdp_running.specs.declared.PacketAnswer.{PacketAnswer}
+use Rattle.cdp_running.specs.Told as T
+use Rattle.cdp_running.specs.Told.{PacketAnswer}
 use Rattle.cdp_running.specs.Tracker.{packet_call}
 use Rattle.cdp_running.specs.Word as Word
 use Rattle.cdp_running.specs.Word.{rows_as, rows_of, taken_as, position_now, records_of, TakenWord, Outcome, taken, refused, taken_of, word_call}

@@ -13,7 +13,7 @@ use Rattle.packet.specs.Packet.{in_range}
 use Rattle.payload_fsm.proofs.Rows.{choice}
 use Rattle.records.specs.Records.{room}
 use Rattle.cdp_running.specs.declared.Tracker.{Tracker}
-use Rattle.cdp_running.specs.declared.PacketAnswer.{PacketAnswer}
+use Rattle.cdp_running.specs.Told.{PacketAnswer}
 use Rattle.cdp_running.specs.Tracker.{start_of, packet_call}
 use Rattle.cdp_running.specs.Word as Word
 use Rattle.cdp_running.specs.Word.{Outcome, taken, refused, word_call}

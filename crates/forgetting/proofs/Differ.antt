@@ -12,6 +12,7 @@ use lib.ListN.{get_or, replicate}
 use Rattle.words.specs.declared.Word.{Word}
 use Rattle.words.specs.Word.{number, word_of, bits}
 use Rattle.packet.specs.declared.Rule.TheVariants as R
+use Rattle.std.specs.Prelude.{Some}
 use Rattle.packet.specs.declared.Settings.{Settings}
 use Rattle.packet.specs.Packet.{most_packets}
 use Rattle.payload_fsm.specs.Kinds.{kind_number}
@@ -19,7 +20,7 @@ use Rattle.payload_fsm.specs.Settle.{DataClear, TdtDone, TdhClear, Marker, three
 use Rattle.words.specs.Lists.{Each}
 use Rattle.records.specs.Records.{most_records, record_width, flat, given}
 use Rattle.cdp_running.specs.declared.Tracker.{Tracker}
-use Rattle.cdp_running.specs.declared.Told.TheVariants.{Taken, Refused}
+use Rattle.cdp_running.specs.Told.{Taken, Refused}
 use Rattle.cdp_running.specs.Tracker.{Good, start_of, packet_call}
 use Rattle.cdp_running.specs.Word.{records_of, taken_of, word_call}
 use Rattle.cdp_running.proofs.Good.{good_start}
@@ -63,7 +64,7 @@ header = packet (record { position = 0; orbit = 0; trigger = 0; bc = 0; page = 0
 
 -- A tracker with running checks, frames and a period, that has accepted a packet.
 abbrev pub settings : Settings
-settings = record { running = true; frames = true; periodic = true; period = 198; rule = R.One }
+settings = record { running = true; frames = true; period = Some 198; rule = R.One }
 
 pub begun : Tracker
 begun = run (start_of settings) (header ∷ [])
@@ -242,7 +243,7 @@ all_three = header ∷ ihw 1 ∷ internal_tdh 0 ∷ cdw 0 ∷ []
 
 pub begun_plain : Tracker
 begun_plain =
-    run (start_of (record { running = false; frames = true; periodic = true; period = 198; rule = R.One })) (header ∷ [])
+    run (start_of (record { running = false; frames = true; period = Some 198; rule = R.One })) (header ∷ [])
 
 pub needs_settings : Needed equal_settings begun begun_plain (short 1 0) (three 1 0) all_three (say 0 0 0 0 0x21 ∷ [])
 unfolding begun begun_plain counted some run answers took took_in words_in packet_call word_call taken_of
@@ -269,7 +270,7 @@ needs_settings =
 -- orbit later, gets 45 by rule 2 only.
 pub begun_two : Tracker
 begun_two =
-    run (start_of (record { running = true; frames = true; periodic = true; period = 198; rule = R.Two })) (header ∷ [])
+    run (start_of (record { running = true; frames = true; period = Some 198; rule = R.Two })) (header ∷ [])
 
 abbrev pub an_orbit_on : Call
 an_orbit_on = say_in most_records (0 ∷ 0x10 ∷ 198 ∷ 0 ∷ 1 ∷ 0 ∷ 0 ∷ 0 ∷ 0 ∷ 0xE8 ∷ [])
@@ -515,7 +516,6 @@ unfolding begun last_but_one run packet_call
 good_last =
     let g = good_run (start_of settings) (header ∷ []) (good_start settings) in
     record {
-      settings = g.settings;
       packet = g.packet;
       count = g.count;
       stored = g.stored;

@@ -9,7 +9,7 @@ use Rattle.packet.specs.declared.Packet.{Packet}
 use Rattle.words.specs.Lists.{Each}
 use Rattle.stored.specs.declared.Stored.{Stored}
 use Rattle.cdp_running.specs.declared.Tracker.{Tracker}
-use Rattle.cdp_running.specs.declared.PacketAnswer.{PacketAnswer}
+use Rattle.cdp_running.specs.Told.{PacketAnswer}
 use Rattle.cdp_running.specs.Tracker.{Good, start_of, accept_of, packet_call}
 use Rattle.cdp_running.proofs.Good.{good_start}
 use Rattle.cdp_running.proofs.Outcome.{accepted_admitted}

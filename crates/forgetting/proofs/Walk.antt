@@ -15,7 +15,7 @@ use Rattle.packet.specs.Packet.{in_range, max_words, most_packets}
 use Rattle.words.specs.Lists.{Each}
 use Rattle.records.specs.Records.{room}
 use Rattle.cdp_running.specs.declared.Tracker.{Tracker}
-use Rattle.cdp_running.specs.declared.PacketAnswer.{PacketAnswer}
+use Rattle.cdp_running.specs.Told.{PacketAnswer}
 use Rattle.cdp_running.specs.Tracker.{Good, accept_of}
 use Rattle.cdp_running.specs.Next.{next_tracker}
 use Rattle.cdp_running.specs.Word as Word

@@ -8,7 +8,7 @@ use Rattle.payload_fsm.specs.declared.ItsPayloadWord.{ItsPayloadWord}
 use Rattle.words.specs.Lists.{over}
 use Rattle.records.specs.Records.{flat, room}
 use Rattle.cdp_running.specs.declared.Tracker.{Tracker}
-use Rattle.cdp_running.specs.declared.Told.{Told}
+use Rattle.cdp_running.specs.Told.{Told}
 use Rattle.cdp_running.specs.Tracker.{reset_of, packet_call}
 use Rattle.cdp_running.specs.Word as Word
 use Rattle.cdp_running.specs.Word.{Outcome, taken, refused, word_call}

@@ -2,7 +2,7 @@
 -- Assumes nothing.
 use Prim.Native.Nat.{ℕ, zero, suc, ◌/◌, ◌%◌, ◌<◌, ◌^◌}
 use mathlib.Core.Path.{◌≡◌, refl, sym, subst}
-use mathlib.Core.Bool.{Bool, true, false, cond, ◌&&◌}
+use mathlib.Core.Bool.{◌&&◌}
 use mathlib.Core.List.{List}
 use native.Mathlib.Omega.{arith}
 use lib.Dec.{eqb}
@@ -13,12 +13,13 @@ use Rattle.words.specs.Tdh.{internal_trigger}
 use Rattle.words.proofs.Bits.{bits_below}
 use Rattle.packet.specs.declared.Settings.{Settings}
 use Rattle.packet.specs.declared.Packet.{Packet}
+use Rattle.packet.specs.Settings.{period_of}
 use Rattle.payload_fsm.specs.Kinds.{is_tdh}
 use Rattle.payload_fsm.proofs.Rows.{choice}
 use Rattle.stored.specs.declared.StoredTdh.{StoredTdh}
 use Rattle.stored.specs.declared.InternalTdh.{InternalTdh}
 use Rattle.cdp_running.specs.declared.Tracker.{Tracker}
-use Rattle.cdp_running.specs.declared.PacketAnswer.{PacketAnswer}
+use Rattle.cdp_running.specs.Told.{PacketAnswer}
 use Rattle.cdp_running.specs.Tracker.{Good, start_of, reset_of, packet_call}
 use Rattle.cdp_running.specs.Word as Word
 use Rattle.cdp_running.specs.Word.{Outcome, taken, refused, taken_as, word_call}
@@ -34,13 +35,8 @@ use Rattle.tracker_array.proofs.Laws.{good_again}
 abbrev pub Kept : Tracker → Type 0
 Kept t = Good t × Sized t
 
-pub kept_start : (s : Settings) → (s.periodic ≡ true → s.period < 2 ^ 32) → Kept (start_of s)
-kept_start s h =
-    (good_start s, record { period = at s.periodic h; orbit = omega arith; internal_orbit = omega arith })
-  where
-    at : (b : Bool) → (b ≡ true → s.period < 2 ^ 32) → cond b s.period 0 < 2 ^ 32
-    at true low = low refl
-    at false low = omega arith
+pub kept_start : (s : Settings) → period_of s < 2 ^ 32 → Kept (start_of s)
+kept_start s h = (good_start s, record { period = h; orbit = omega arith; internal_orbit = omega arith })
 
 -- The orbit of a TDH has 32 bits.
 pub sized_next : (t : Tracker) (w : Word) → Sized t → Sized (next_tracker t (taken_as t w) w)

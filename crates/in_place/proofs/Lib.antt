@@ -1,9 +1,5 @@
-pub mod QuietId
-pub mod QuietIds
-pub mod Runs
 pub mod Storing
 pub mod Kept
 pub mod Packets
-pub mod Steps
-pub mod Walk
+pub mod Lent
 pub mod Unique

@@ -1,12 +1,9 @@
 -- The packet call and the reset on the numbers of a tracker.
 -- Assumes nothing.
-use mathlib.Core.Path.{◌≡◌, sym, ap, ◌∙◌}
-use mathlib.Core.Bool.{Bool, true, false}
-use mathlib.Core.List.{List}
-use Prim.Native.Nat.{ℕ, ◌≤◌, ◌<◌}
-use lib.ListN.{set}
-use borrow.Author.Tests.{not-true, not-false, lt-ltb, le-ltb}
-use mathlib.Core.Bool.{not}
+use Rattle.std.proofs.Common.{◌≡◌, ap, ◌∙◌, true, false, List, ℕ, ◌≤◌, ◌<◌, set, lt-ltb, le-ltb, Result, Ok, Err, IsErr, IsErrAnd}
+use Rattle.refusals.specs.declared.Refusal.{Refusal}
+use Rattle.refusals.specs.declared.Refusal.TheVariants as R
+use Rattle.refusals.specs.Refusals.{code}
 use Rattle.packet.specs.declared.Packet.{Packet}
 use Rattle.packet.specs.Packet.{in_range, most_packets}
 use Rattle.cdp_running.specs.Tracker.{accept_of, packet_call}
@@ -19,28 +16,29 @@ use Rattle.in_place.proofs.Storing.{resets}
 use Rattle.in_place.proofs.Kept.{kept_packet, kept_reset, good_after}
 
 module _ (a : List ℕ) (h : GoodArray a) where
-  -- What the ranges say: r is the code's answer.
-  module _ (p : Packet) {r : Bool} (asked : r ≡ in_range p) where
-    pub packet_5 : not r ≡ true → PacketInPlace a p 5 a
+  module _ (p : Packet) where
+    -- x is the refusal of the ranges, and r what is answered with it.
+    pub packet_5 : {x : Refusal} (r : Result Unit Refusal) → IsErr r × IsErrAnd r (λ y. y ≡ x) → (in_range p ≡ false) × (x ≡ R.Packet)
+        → PacketInPlace a p (code r) a
     unfolding packet_call
-    packet_5 e =
-        let out = sym asked ∙ not-true r e in record { answer = simp out; numbers = simp out h.is.numbers; good = h }
+    packet_5 (Ok u) (_, none) _ = absurd none
+    packet_5 (Err y) (_, same) (out, e) =
+        rw (same ∙ e) (record { answer = simp out; numbers = simp out h.is.numbers; good = h })
 
-    pub packet_10 : not r ≡ false → most_packets ≤ place a P.packets → PacketInPlace a p 10 a
+    pub packet_10 : in_range p ≡ true → most_packets ≤ place a P.packets → PacketInPlace a p 10 a
     unfolding packet_call
-    packet_10 e most =
-        let within = sym asked ∙ not-false r e in
+    packet_10 within most =
         let last = le-ltb (place a P.packets) most_packets most in
         record { answer = simp (within, last); numbers = simp (within, last) h.is.numbers; good = h }
 
-    pub packet_done : {after : List ℕ} → not r ≡ false → place a P.packets < most_packets
-        → after ≡ encode_of (accept_of (tracker_in a) p)
+    pub packet_done : {q : Packet} {after : List ℕ} → (in_range p ≡ true) × (q ≡ p) → place a P.packets < most_packets
+        → after ≡ encode_of (accept_of (tracker_in a) q)
         → PacketInPlace a p 0 after
     unfolding packet_call
-    packet_done {after} e low q =
-        let within = sym asked ∙ not-false r e in
+    packet_done {after = after} (within, same) low e =
         let few = lt-ltb (place a P.packets) most_packets low in
-        let numbers : after ≡ encode_of (packet_call (tracker_in a) p).tracker = simp (within, few) q in
+        let stored = e ∙ ap (λ (x : Packet). encode_of (accept_of (tracker_in a) x)) same in
+        let numbers : after ≡ encode_of (packet_call (tracker_in a) p).tracker = simp (within, few) stored in
         record {
           answer = simp (within, few);
           numbers = numbers;

@@ -24,13 +24,12 @@ use Rattle.cdp_running.specs.declared.Tracker.{Tracker}
 use Rattle.cdp_running.specs.Tracker.{accept_of, reset_of}
 use Rattle.cdp_running.specs.Next.{next_tracker}
 use Rattle.cdp_running.specs.Word.{position_now}
-use Rattle.tracker_array.specs.Array.{packet_numbers, state_number, encode_of, is_on}
+use Rattle.tracker_array.specs.Array.{packet_numbers, state_number, encode_of}
 use Rattle.tracker_array.specs.Place as P
 use Rattle.tracker_array.specs.Read.{place, tracker_in}
 use Rattle.tracker_array.specs.Good.{GoodArray}
 use Rattle.tracker_array.proofs.Laws.{flag_back}
-use Rattle.in_place.specs.Storing.{stores_of, tdh_stores, put_if}
-use Rattle.in_place.proofs.QuietId.{quiet_next}
+use Rattle.in_place.specs.Storing.{stores_of, put_if}
 
 module _ (t : Tracker) (s : State) (w : Word) where
   -- State and count.
@@ -115,19 +114,6 @@ module _ (t : Tracker) (s : State) (w : Word) where
   by_kind K.Tdt g = simp flag_back (tdt_if (t.settings.frames && packet_done w))
   by_kind K.Ddw0 g = refl
 
--- What the code stores for a TDH, one part after the other.
-pub tdh_stored : (w : Word) (l : List ℕ) (here : ℕ) {bc orbit : ℕ} {internal opens : Bool} {first second last : List ℕ}
-    → bc ≡ trigger_bc w
-    → orbit ≡ trigger_orbit w → internal ≡ eqb (internal_trigger w) 1
-    → opens ≡ (is_on (place l P.frames) && (not (is_on (place l P.opened)) && eqb (continuation w) 0))
-    → first ≡ sets l P.tdh (1 ∷ trigger_type w ∷ trigger_bc w ∷ trigger_orbit w ∷ [])
-    → second ≡ put_if internal P.internal (1 ∷ bc ∷ orbit ∷ []) first → last ≡ put_if opens P.frame (1 ∷ here ∷ []) second
-    → last ≡ tdh_stores w here l
-tdh_stored w l here b m n o p q r =
-    r ∙ (λ i. put_if (o i) P.frame (1 ∷ here ∷ []) (q i))
-    ∙ (λ i. put_if (is_on (place l P.frames) && (not (is_on (place l P.opened)) && eqb (continuation w) 0)) P.frame
-    (1 ∷ here ∷ []) (put_if (n i) P.internal (1 ∷ b i ∷ m i ∷ []) (p i)))
-
 -- One law for all kinds.
 pub stores_next : (t : Tracker) (a : Advanced) (w : Word)
     → stores_of a.word w (position_now t) (sets (encode_of t) P.reached
@@ -144,15 +130,6 @@ good_next l a w h =
     (sets x P.reached (state_number a.fsm.state ∷ (place l P.count + 1) ∷ []))) h.is.numbers
     ∙ stores_next (tracker_in l) a w
 
--- The same, with what the code stored on the way.
-pub by_stores : (l : List ℕ) (a : Advanced) (w : Word) (kind : ItsPayloadWord) {here : ℕ} {first last : List ℕ}
-    → GoodArray l
-    → here ≡ position_now (tracker_in l) → a.word ≡ kind
-    → first ≡ sets l P.reached (state_number a.fsm.state ∷ (place l P.count + 1) ∷ [])
-    → last ≡ stores_of kind w here first
-    → last ≡ encode_of (next_tracker (tracker_in l) a w)
-by_stores l a w kind h p e q r = r ∙ (λ i. stores_of (sym e i) w (p i) (q i)) ∙ good_next l a w h
-
 -- A packet that is accepted, and a reset.
 pub accepts : (l : List ℕ) (p : Packet) → GoodArray l
     → set (set (sets (set (set l P.packets (place l P.packets + 1)) P.accepted 1) P.packet (packet_numbers p)) P.count 0) P.seen 0
@@ -165,9 +142,3 @@ accepts l p h =
 pub resets : (l : List ℕ) → GoodArray l → set l P.state 0 ≡ encode_of (reset_of (tracker_in l))
 unfolding encode_of
 resets l h = ap (λ (x : List ℕ). set x P.state 0) h.is.numbers
-
--- So many quiet data words.
-pub counts : (l : List ℕ) (n : ℕ) → GoodArray l
-    → set (set l P.count (place l P.count + n)) P.seen 1 ≡ encode_of (quiet_next (tracker_in l) n)
-unfolding encode_of
-counts l n h = ap (λ (x : List ℕ). set (set x P.count (place l P.count + n)) P.seen 1) h.is.numbers

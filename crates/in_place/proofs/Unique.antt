@@ -5,8 +5,8 @@ use mathlib.Core.Path.{◌≡◌}
 use mathlib.Core.List.{List}
 use Rattle.words.proofs.Unique.{unique}
 use Rattle.packet.specs.declared.Packet.{Packet}
-use Rattle.cdp_running.specs.declared.Told.{Told}
-use Rattle.in_place.specs.declared.PayloadTold.{PayloadTold}
+use Rattle.cdp_running.specs.Told.{Told}
+use Rattle.payload.specs.Answer.{PayloadTold}
 use Rattle.in_place.specs.Calls.{PacketInPlace, ResetInPlace, WordInPlace, PayloadInPlace}
 
 pub packet_unique : {a after after' : List ℕ} {p : Packet} {first second : ℕ} → PacketInPlace a p first after

@@ -1,5 +1,3 @@
--- Calls on the numbers of a tracker: Calls is what they give, Storing what a word of each kind stores, Quiet data words that give no record. Storing and
--- Quiet serve the code alone: no contract of an exported function cites them.
+-- Calls on the numbers of a tracker: Calls is what they give, Storing what a word of each kind stores, of which no contract speaks.
 pub mod Calls
 pub mod Storing
-pub mod Quiet

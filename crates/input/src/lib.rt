@@ -1,53 +1,30 @@
-// Reading until a buffer is full or the input ends, with word of a read that failed.
+// Reading until a buffer is full or the input ends.
 #![tactic(auto)]
 
+ghost use Rattle.std.specs.Prelude.{IfOk, IfErr};
 ghost use Rattle.io.specs.Counts.{IsPrefixLen};
 
 use std::io::Read;
 
-// What was read at the front of a buffer, and whether a read failed.
-#[derive(Clone, Copy)]
-pub struct Got {
-    pub n: usize,
-    pub failed: bool,
+// A read failed, behind so many bytes at the front of the buffer.
+#[derive(Clone, Copy, Debug, PartialEq, Eq)]
+pub struct ReadFailed {
+    pub read: usize,
 }
 
-// One read. At the end of the input it puts nothing there.
-pub fn read_some<R: Read>(from: &mut R, buf: &mut [u8]) -> Got
-    ensures { IsPrefixLen result.n buf.new }
+// Reads until the buffer is full, the input ends or a read fails. Gives how many bytes stand at the front of the buffer.
+pub fn read_all<R: Read>(from: &mut R, buf: &mut [u8]) -> Result<usize, ReadFailed>
+    ensures ok { IfOk result (λ n. IsPrefixLen n buf.new) }
+    ensures err { IfErr result (λ e. IsPrefixLen e.read buf.new) }
 {
-    match from.read(buf) {
-        Ok(n) => Got {
-            n: n,
-            failed: false,
-        },
-        Err(_) => Got { n: 0, failed: true },
-    }
-}
-
-// Reads until the buffer is full, the input ends or a read fails.
-pub fn read_all<R: Read>(from: &mut R, buf: &mut [u8]) -> Got
-    ensures { IsPrefixLen result.n buf.new }
-{
-    let mut done: usize = 0;
-    while done < buf.len() {
-        let got = read_some(from, &mut buf[done..]);
-        if got.failed {
-            return Got {
-                n: done,
-                failed: true,
-            };
+    let mut read: usize = 0;
+    // No `for`: each read says how far it came.
+    while read < buf.len() {
+        match from.read(&mut buf[read..]) {
+            Ok(0) => break,
+            Ok(n) => read += n,
+            Err(_) => return Err(ReadFailed { read }),
         }
-        if got.n == 0 {
-            return Got {
-                n: done,
-                failed: false,
-            };
-        }
-        done = done + got.n;
     }
-    Got {
-        n: done,
-        failed: false,
-    }
+    Ok(read)
 }

@@ -1,78 +1,46 @@
 -- What each return of the exported functions hands over, over plain variables.
 -- Assumes nothing.
-use Prim.Native.Nat.{ℕ, ◌≤◌}
+use Prim.Native.Nat.{ℕ, ◌≤◌, ◌<◌, ◌^◌}
 use mathlib.Core.Path.{◌≡◌, refl, ap, sym, ◌∙◌}
-use mathlib.Core.Bool.{Bool, true, false, cond, not}
+use mathlib.Core.Bool.{Bool, true, false}
 use mathlib.Core.List.{List}
-use lib.ListN.{length}
-use borrow.Author.Tests.{eqb-true, eq-eqb, ne_eqb, not-true, not-false}
+use borrow.Author.Tests.{eqb-true}
 use Rattle.words.proofs.Tests.{tests}
-use Rattle.packet.specs.declared.Rule.{Rule}
+use native.Mathlib.Omega.{arith}
+use Rattle.std.specs.Prelude.{unwrap_or}
+use Rattle.std.specs.Bool.{then_some}
 use Rattle.packet.specs.declared.Packet.{Packet}
+use Rattle.packet.specs.Settings.{period_of}
 use Rattle.words.specs.Lists.{over}
 use Rattle.records.specs.Records.{flat, room}
 use Rattle.cdp_running.specs.declared.Tracker.{Tracker}
-use Rattle.cdp_running.specs.declared.Told.{Told}
-use Rattle.cdp_running.specs.declared.Told.TheVariants.{Refused}
-use Rattle.cdp_running.specs.Tracker.{start_of, reset_of, packet_call}
+use Rattle.cdp_running.specs.Told.{Told}
+use Rattle.cdp_running.specs.Told.{Refused}
+use Rattle.cdp_running.specs.Tracker.{reset_of, packet_call}
 use Rattle.cdp_running.specs.Word as Word
 use Rattle.cdp_running.specs.Word.{word_call, records_in}
 use Rattle.payload.specs.Payload as Payload
 use Rattle.payload.specs.Payload.{payload_call}
-use Rattle.tracker_array.specs.Array.{size, encode_of, written_to, is_on, rule_of}
+use Rattle.tracker_array.specs.Array.{encode_of, is_on}
 use Rattle.tracker_array.specs.Read.{tracker_in, is_tracker}
 use Rattle.tracker_array.specs.Good.{GoodArray}
 use Rattle.tracker_array.proofs.Laws.{tests_decide, read_as, no_tracker_lem, good_array}
-use Rattle.in_place.specs.declared.PayloadTold.{PayloadTold}
+use Rattle.payload.specs.Answer.{PayloadTold}
 use Rattle.in_place.specs.Calls.{PacketInPlace, ResetInPlace, WordInPlace, PayloadInPlace}
 use Rattle.khandzorul.specs.declared.WordNumbers.{WordNumbers}
-use Rattle.khandzorul.specs.Answer.{no_tracker, no_settings, told_numbers, paid_numbers}
-use Rattle.khandzorul.specs.Calls.{Asked, max_period, are_settings, On, StartOn, PacketOn, ResetOn, WordOn, PayloadOn}
+use Rattle.khandzorul.specs.Answer.{no_tracker, told_numbers, paid_numbers}
+use Rattle.khandzorul.specs.Calls.{Asked, max_period, are_settings, settings_from, On, PacketOn, ResetOn, WordOn, PayloadOn}
 
 -- A period of settings fits, where there is one.
 pub period_fits : (s : Asked) → are_settings s ≡ true → is_on s.periodic ≡ true → s.period ≤ max_period
 period_fits s e on = let (running, (frames, (periodic, (low, rule)))) = simp tests at e in low (eqb-true _ _ on)
 
--- The start keeps nothing of a period that is absent.
-absent : (running frames periodic : Bool) (m : ℕ) (rule : Rule) {n : ℕ} → n ≡ cond periodic m 0
-    → start_of (record { running = running; frames = frames; periodic = periodic; period = n; rule = rule })
-    ≡ start_of (record { running = running; frames = frames; periodic = periodic; period = m; rule = rule })
-absent running frames true m rule e =
-    ap (λ (k : ℕ). start_of (record { running = running; frames = frames; periodic = true; period = k; rule = rule })) e
-absent running frames false m rule e = refl
+low_period : (on : Bool) (n : ℕ) → (on ≡ true → n ≤ max_period) → unwrap_or (then_some on n) 0 < 2 ^ 32
+low_period true n low = let most = low refl in omega (arith, most)
+low_period false n low = omega arith
 
-stays : (b : Bool) (a : List ℕ) → a ≡ cond b a a
-stays true a = refl
-stays false a = refl
-
-module _ (a : List ℕ) (s : Asked) where
-  pub start_none : (length a ≡ size → ⊥) → StartOn a s no_tracker a
-  start_none h = record { answer = simp (ne_eqb _ _ h); tracker = simp (ne_eqb _ _ h) (stays (are_settings s) a) }
-
-  module _ (long : length a ≡ size) {r : Bool} (asked : r ≡ are_settings s) where
-    pub start_refused : not r ≡ true → StartOn a s no_settings a
-    start_refused e =
-        let no = sym asked ∙ not-true r e in record { answer = simp (eq-eqb _ _ long, no); tracker = simp no }
-
-    pub settings_fit : not r ≡ false → is_on s.periodic ≡ true → s.period ≤ max_period
-    settings_fit e = period_fits s (sym asked ∙ not-false r e)
-
-    pub start_done : {t : Tracker} {n : ℕ} {rule : Rule} {after : List ℕ} → not r ≡ false
-        → n ≡ cond (is_on s.periodic) s.period 0
-        → rule ≡ rule_of s.rule
-        → t ≡ start_of (record { running = is_on s.running; frames = is_on s.frames; periodic = is_on s.periodic; period = n; rule = rule })
-        → after ≡ written_to a t → StartOn a s 0 after
-    start_done {t} {n} e k j p q =
-        let yes = sym asked ∙ not-false r e in
-        record {
-          answer = simp (eq-eqb _ _ long, yes);
-          tracker =
-              simp yes
-              (q
-              ∙ ap (written_to a)
-              (p ∙ (λ i. start_of (record { running = is_on s.running; frames = is_on s.frames; periodic = is_on s.periodic; period = n; rule = j i }))
-              ∙ absent (is_on s.running) (is_on s.frames) (is_on s.periodic) s.period (rule_of s.rule) k));
-        }
+pub settings_fit : (s : Asked) → are_settings s ≡ true → period_of (settings_from s) < 2 ^ 32
+settings_fit s e = low_period (is_on s.periodic) s.period (period_fits s e)
 
 -- Whether numbers are a tracker, as the code asks it: r is its answer.
 module _ (a : List ℕ) {r : Bool} (asked : r ≡ is_tracker a) where

@@ -12,7 +12,7 @@ use Rattle.packet.specs.declared.Packet.{Packet}
 use Rattle.words.specs.Lists.{over}
 use Rattle.records.specs.Records.{Record, flat, room}
 use Rattle.cdp_running.specs.declared.Tracker.{Tracker}
-use Rattle.cdp_running.specs.declared.Told.TheVariants.{Refused}
+use Rattle.cdp_running.specs.Told.{Refused}
 use Rattle.cdp_running.specs.Tracker.{start_of, reset_of, packet_call}
 use Rattle.cdp_running.specs.Word as Word
 use Rattle.cdp_running.specs.Word.{Outcome, taken, refused, word_call}
@@ -26,7 +26,7 @@ use Rattle.khandzorul.specs.declared.WordNumbers.{WordNumbers}
 use Rattle.khandzorul.specs.declared.PayloadNumbers.{PayloadNumbers}
 use Rattle.khandzorul.specs.Answer.{no_tracker, no_settings, told_numbers}
 use Rattle.khandzorul.specs.Calls.{Asked, are_settings, settings_from, StartOn, PacketOn, ResetOn, WordOn, PayloadOn}
-use Rattle.khandzorul.proofs.Exports.{period_fits}
+use Rattle.khandzorul.proofs.Exports.{settings_fit}
 
 -- The numbers of a tracker are that tracker.
 again : {t : Tracker} {after : List ℕ} → after ≡ encode_of t → Kept t → IsTracker after t
@@ -36,8 +36,7 @@ pub start_holds : (a : List ℕ) (s : Asked) {r : ℕ} {after : List ℕ} → St
     → length a ≡ size
     → IsTracker after (start_of (settings_from s))
 start_holds a s w h l =
-    again (simp (h, eq-eqb _ _ l) at w.tracker) (kept_start (settings_from s) (λ on. let low = period_fits s h on in
-    omega arith))
+    again (simp (h, eq-eqb _ _ l) at w.tracker) (kept_start (settings_from s) (settings_fit s h))
 
 module _ (a : List ℕ) (t : Tracker) (i : IsTracker a t) where
   kept : Kept t

@@ -1,9 +1,9 @@
 -- Answers as the structs that cross to C (include/khandzorul.h). The numbers of a word's answer are those that cdp_running gives them.
 -- Assumes nothing.
 use Rattle.std.specs.Prelude.{ℕ}
-use Rattle.cdp_running.specs.declared.Told.{Told}
+use Rattle.cdp_running.specs.Told.{Told}
 use Rattle.cdp_running.specs.Answer.{Numbers, numbers_of}
-use Rattle.payload.specs.declared.PayloadAnswer.{PayloadAnswer}
+use Rattle.payload.specs.Answer.{PayloadAnswer}
 use Rattle.khandzorul.specs.declared.WordNumbers.{WordNumbers}
 use Rattle.khandzorul.specs.declared.PayloadNumbers.{PayloadNumbers}
 

@@ -2,12 +2,13 @@
 -- of a tracker, the call on that tracker is made, and the numbers of the tracker that it gives are written. Where it holds no tracker's, 100, and all stays.
 -- Assumes nothing.
 use Rattle.std.specs.Prelude.{ℕ, ◌≡◌, Bool, cond, not, ◌&&◌, ◌||◌, List, leb, eqb, length}
+use Rattle.std.specs.Bool.{then_some}
 use Rattle.packet.specs.declared.Settings.{Settings}
 use Rattle.packet.specs.declared.Packet.{Packet}
 use Rattle.words.specs.Lists.{over}
 use Rattle.records.specs.Records.{flat, room}
 use Rattle.cdp_running.specs.declared.Tracker.{Tracker}
-use Rattle.cdp_running.specs.declared.Told.TheVariants.{Refused}
+use Rattle.cdp_running.specs.Told.{Refused}
 use Rattle.cdp_running.specs.Tracker.{start_of, reset_of, packet_call}
 use Rattle.cdp_running.specs.Word as Word
 use Rattle.cdp_running.specs.Word.{word_call, records_in}
@@ -47,8 +48,7 @@ settings_from s =
     record {
       running = is_on s.running;
       frames = is_on s.frames;
-      periodic = is_on s.periodic;
-      period = s.period;
+      period = then_some (is_on s.periodic) s.period;
       rule = rule_of s.rule;
     }
 

@@ -2,7 +2,8 @@
 // anything of the caller: an array that is no tracker is answered by 100 and left as it was.
 #![tactic(auto)]
 
-ghost use Rattle.std.specs.Prelude.{◌≡◌, true, cond, ◌≤◌};
+ghost use Rattle.std.specs.Prelude.{◌≡◌, true, ◌≤◌};
+ghost use Rattle.std.specs.Bool.{then_some};
 ghost use Rattle.bench_file.specs.File.{check_of};
 ghost use Rattle.tracker_array.specs.Array.{is_on};
 ghost use Rattle.khandzorul.specs.Calls.{max_period, are_settings, StartOn, PacketOn, ResetOn, WordOn, PayloadOn};
@@ -12,7 +13,7 @@ pub mod status;
 pub mod write;
 
 use cdp_running::Tracker;
-use packet::Settings;
+use packet::{PacketFields, Settings};
 use tracker_array::rules;
 
 // What was handed in is no tracker.
@@ -57,12 +58,16 @@ fn are_settings(running: u64, frames: u64, periodic: u64, period: u64, rule: u64
                 & ((!(periodic == 1) | (period <= MAX_PERIOD)) & rules::is_rule(rule))))
 }
 
-// The period that is kept: none is 0.
-fn period_of(periodic: u64, period: u64) -> u32
+// The period, where there is one.
+fn period_of(periodic: u64, period: u64) -> Option<u32>
     requires { is_on periodic ≡ true → period ≤ max_period }
-    ensures { result ≡ cond (is_on periodic) period 0 }
+    ensures { result ≡ then_some (is_on periodic) period }
 {
-    if periodic == 1 { period as u32 } else { 0 }
+    if periodic == 1 {
+        Some(period as u32)
+    } else {
+        None
+    }
 }
 
 // Makes a tracker, whatever stood in the array.
@@ -86,7 +91,6 @@ pub fn khz_start(
     let settings = Settings {
         running: running == 1,
         frames: frames == 1,
-        periodic: periodic == 1,
         period: period_of(periodic, period),
         rule: rules::rule_of(rule),
     };
@@ -111,7 +115,16 @@ pub fn khz_packet(
     if !tracker_array::is_tracker(tracker) {
         return NO_TRACKER;
     }
-    in_place::packet(tracker, position, orbit, trigger, bc, page, stop, format) as u64
+    let fields = PacketFields {
+        position,
+        orbit,
+        trigger,
+        bc,
+        page,
+        stop,
+        format,
+    };
+    answer::code(in_place::packet(tracker, fields))
 }
 
 // One word.
@@ -137,7 +150,7 @@ pub fn khz_payload(tracker: &mut [u64], payload: &[u8], records: &mut [u64]) -> 
     }
     let answer = in_place::payload(tracker, payload, records);
     PayloadNumbers {
-        refusal: answer.refusal as u64,
+        refusal: answer::code_if(answer.refusal),
         words: answer.words,
         records: answer.records,
     }
@@ -158,5 +171,8 @@ pub fn khz_reset(tracker: &mut [u64]) -> u64
 pub fn khz_check_file(file: &[u8]) -> u64
     ensures { result ≡ check_of file.now }
 {
-    bench_file::check(file) as u64
+    match bench_file::check(file) {
+        Ok(()) => 0,
+        Err(refusal) => u8::from(refusal) as u64,
+    }
 }

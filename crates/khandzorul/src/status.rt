@@ -3,7 +3,7 @@ ghost use Rattle.std.specs.Prelude.{◌≡◌};
 ghost use Rattle.words.specs.LaneStatus.{lane_status, worst_lane};
 ghost use Rattle.khandzorul.specs.Status.{status_of};
 
-use words::{FromBuf, Word};
+use words::Word;
 
 // khz_status_answer
 #[repr(C)]
@@ -29,12 +29,12 @@ pub fn khz_worst_lane(word: &[u8]) -> StatusNumbers
     ensures { result ≡ status_of worst_lane word.now }
 {
     match Word::from_buf(word) {
-        FromBuf::Is(word) => StatusNumbers {
+        Ok(word) => StatusNumbers {
             refusal: 0,
             status: words::lane_status::ddw0_tdt_worst_lane_status(word) as u64,
         },
-        FromBuf::Refused(n) => StatusNumbers {
-            refusal: n as u64,
+        Err(n) => StatusNumbers {
+            refusal: u64::from(u8::from(n)),
             status: 0,
         },
     }
@@ -45,12 +45,12 @@ pub fn khz_lane_status(word: &[u8], lane: u64) -> StatusNumbers
     ensures { result ≡ status_of (lane_status lane) word.now }
 {
     match Word::from_buf(word) {
-        FromBuf::Is(word) => StatusNumbers {
+        Ok(word) => StatusNumbers {
             refusal: 0,
             status: lane_status(word, lane),
         },
-        FromBuf::Refused(n) => StatusNumbers {
-            refusal: n as u64,
+        Err(n) => StatusNumbers {
+            refusal: u64::from(u8::from(n)),
             status: 0,
         },
     }

@@ -2,17 +2,18 @@
 ghost use Rattle.writer.specs.Write.{Writes, WritesData};
 ghost use Rattle.writer.specs.declared.Fields.TheVariants as F;
 
+use crate::answer::code;
 use writer::Fields;
 
 pub fn khz_write_ihw(active_lanes: u64, word: &mut [u8]) -> u64
     ensures { Writes (F.Ihw active_lanes) word.old result word.new }
 {
-    writer::write(
+    code(writer::write(
         Fields::Ihw {
             active_lanes: active_lanes,
         },
         word,
-    ) as u64
+    ))
 }
 
 pub fn khz_write_tdh(
@@ -26,7 +27,7 @@ pub fn khz_write_tdh(
 ) -> u64
     ensures { Writes (F.Tdh trigger_type internal no_data continuation bc orbit) word.old result word.new }
 {
-    writer::write(
+    code(writer::write(
         Fields::Tdh {
             trigger_type: trigger_type,
             internal_trigger: internal,
@@ -36,7 +37,7 @@ pub fn khz_write_tdh(
             trigger_orbit: orbit,
         },
         word,
-    ) as u64
+    ))
 }
 
 pub fn khz_write_tdt(
@@ -53,7 +54,7 @@ pub fn khz_write_tdt(
         (F.Tdt lane_status timeout_to_start timeout_start_stop timeout_in_idle lane_starts_violation transmission_timeout packet_done)
         word.old result word.new }
 {
-    writer::write(
+    code(writer::write(
         Fields::Tdt {
             lane_status: lane_status,
             timeout_to_start: timeout_to_start,
@@ -64,7 +65,7 @@ pub fn khz_write_tdt(
             packet_done: packet_done,
         },
         word,
-    ) as u64
+    ))
 }
 
 pub fn khz_write_ddw0(
@@ -76,7 +77,7 @@ pub fn khz_write_ddw0(
 ) -> u64
     ensures { Writes (F.Ddw0 lane_status lane_starts_violation transmission_timeout index) word.old result word.new }
 {
-    writer::write(
+    code(writer::write(
         Fields::Ddw0 {
             lane_status: lane_status,
             lane_starts_violation: lane_starts_violation,
@@ -84,23 +85,23 @@ pub fn khz_write_ddw0(
             index: index,
         },
         word,
-    ) as u64
+    ))
 }
 
 pub fn khz_write_cdw(user_fields: u64, index: u64, word: &mut [u8]) -> u64
     ensures { Writes (F.Cdw user_fields index) word.old result word.new }
 {
-    writer::write(
+    code(writer::write(
         Fields::Cdw {
             user_fields: user_fields,
             index: index,
         },
         word,
-    ) as u64
+    ))
 }
 
 pub fn khz_write_data(id: u64, bytes: &[u8], word: &mut [u8]) -> u64
     ensures { WritesData id bytes.now word.old result word.new }
 {
-    writer::write_data(id, bytes, word) as u64
+    code(writer::write_data(id, bytes, word))
 }

@@ -1,7 +1,10 @@
 -- 01, "Calls and settings": a packet, the ranges of its fields, how many words it takes and where they stand.
 -- Assumes nothing.
-use Rattle.std.specs.Prelude.{ℕ, ◌+◌, ◌*◌, ◌≤◌, ◌^◌, Bool, cond, ◌&&◌, ◌||◌, leb, ltb, eqb}
+use Rattle.std.specs.Prelude.{ℕ, ◌+◌, ◌*◌, ◌≤◌, ◌^◌, ◌≡◌, Bool, true, false, cond, ◌&&◌, ◌||◌, leb, ltb, eqb, Result, Ok, Err}
+use Rattle.refusals.specs.declared.Refusal.{Refusal}
+use Rattle.refusals.specs.declared.Refusal.TheVariants as R
 use Rattle.packet.specs.declared.Packet.{Packet}
+use Rattle.packet.specs.declared.PacketFields.{PacketFields}
 
 -- "a presence flag beside fields": no packet yet, all zeros.
 abbrev pub no_packet : Packet
@@ -18,6 +21,28 @@ in_range p =
     && (ltb p.trigger (2 ^ 32)
     && (leb p.bc 4095
     && (ltb p.page (2 ^ 16) && (ltb p.stop (2 ^ 8) && (eqb p.format 0 || eqb p.format 2))))))
+
+-- The packet of numbers as they are given.
+abbrev pub packet_from : PacketFields → Packet
+packet_from fields =
+    record {
+      position = fields.position;
+      orbit = fields.orbit;
+      trigger = fields.trigger;
+      bc = fields.bc;
+      page = fields.page;
+      stop = fields.stop;
+      format = fields.format;
+    }
+
+-- The fields of a packet: those that it is the packet of.
+abbrev pub gives_fields : Packet → PacketFields → Type 0
+gives_fields p fields = packet_from fields ≡ p
+
+-- The packet of numbers in their ranges, and else refusal 5.
+abbrev pub gives_packet : PacketFields → Result Packet Refusal → Type 0
+gives_packet fields (Ok p) = (in_range (packet_from fields) ≡ true) × (p ≡ packet_from fields)
+gives_packet fields (Err r) = (in_range (packet_from fields) ≡ false) × (r ≡ R.Packet)
 
 -- "A packet takes 4,096 words."
 abbrev pub max_words : ℕ

@@ -1,10 +1,12 @@
 -- The payload's loop, over lists alone: what was done, before the run of what is left.
 -- Assumes nothing.
 use Prim.Native.Nat.{ℕ, suc, ◌+◌, ◌-◌, ◌*◌, ◌/◌, ◌%◌, ◌<◌, ◌≤◌}
-use mathlib.Core.Path.{◌≡◌, refl, sym, ap, ◌∙◌}
+use mathlib.Core.Path.{◌≡◌, refl, sym, ap, subst, ◌∙◌}
 use mathlib.Core.Bool.{Bool, true, false, true≢false}
 use mathlib.Core.List.{List, [], ◌++◌, append-nil}
 use native.Mathlib.Nat.{add-zero, sub-zero}
+use Rattle.std.specs.Prelude.{Result}
+use Rattle.refusals.specs.declared.Refusal.{Refusal}
 use native.Mathlib.Omega.{arith}
 use borrow.Author.Tests.{eq-eqb, ne_eqb}
 use borrow.Rule.Slice.PartMut.{put_mid, mid_of, same_len_mid}
@@ -16,9 +18,9 @@ use Rattle.records.proofs.Given.{flat_append, length_flat}
 use Rattle.words.proofs.Buffer.{mid_tail, lent_on, over_fits}
 use Rattle.cdp_running.specs.declared.Tracker.{Tracker}
 use Rattle.cdp_running.specs.declared.Taken.{Taken}
-use Rattle.cdp_running.specs.declared.Told.{Told}
-use Rattle.cdp_running.specs.declared.Told.TheVariants as T
-use Rattle.cdp_running.specs.declared.WordAnswer.{WordAnswer}
+use Rattle.cdp_running.specs.Told.{Told}
+use Rattle.cdp_running.specs.Told as T
+use Rattle.cdp_running.specs.Told.{WordAnswer, word_answered}
 use Rattle.cdp_running.specs.Tracker.{Good}
 use Rattle.cdp_running.specs.Word as W
 use Rattle.cdp_running.specs.Word.{TakenWord, Outcome, taken, refused, word_call, records_in, WordPost}
@@ -47,6 +49,11 @@ pub record Going (t : Tracker) (b out₀ out : List ℕ) (cur : Tracker) (at use
   pub ready : Ready cur b at
   pub comes : words_from (length b / 10) t b (room out₀) ≡ preceded (at / 10) rs
       (run_from b (room out₀ - length rs) cur at)
+
+-- What the code found of a word's answer.
+pub answered : {t : Tracker} {bytes buffer after : List ℕ} {x r : Result (Tracker × Taken) Refusal} → x ≡ r
+    → WordPost t bytes buffer (word_answered t x) after → WordPost t bytes buffer (word_answered t r) after
+answered {t} {bytes} {buffer} {after} e w = subst (λ (r : Result (Tracker × Taken) Refusal). WordPost t bytes buffer (word_answered t r) after) e w
 
 -- From an answer back to the outcome.
 record Took (o : Outcome) (r : WordAnswer) (n : ℕ) : Type 0 where

@@ -1,2 +1,4 @@
--- A payload call.
+-- A payload call, and data words that give no record (Quiet, which serves the code alone).
+pub mod Answer
 pub mod Payload
+pub mod Quiet

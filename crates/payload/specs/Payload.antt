@@ -8,7 +8,7 @@ use Rattle.records.specs.Records.{Record, flat, room}
 use Rattle.cdp_running.specs.declared.Tracker.{Tracker}
 use Rattle.cdp_running.specs.Tracker.{Good}
 use Rattle.cdp_running.specs.Word.{TakenWord, Outcome, taken, refused, word_call}
-use Rattle.payload.specs.declared.PayloadAnswer.{PayloadAnswer}
+use Rattle.payload.specs.Answer.{PayloadAnswer}
 
 -- What words one after the other come to: the tracker after them, how many were taken, their records, and the refusal's number or 0.
 pub record Run : Type 0 where

@@ -1,8 +1,6 @@
 -- A marker without its TDT leads among data from every state: three data words do, and so do a TDH and one data word.
 -- Assumes nothing.
-use mathlib.Core.Path.{refl}
-use mathlib.Core.List.{List, [], ◌∷◌}
-use mathlib.Core.Logic.{inl, inr}
+use Rattle.std.proofs.Common.{refl, List, [], ◌∷◌, inl, inr}
 use Rattle.words.specs.declared.Word.{Word}
 use Rattle.payload_fsm.specs.declared.State.{State}
 use Rattle.payload_fsm.specs.declared.State.TheVariants as S

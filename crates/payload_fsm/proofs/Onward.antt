@@ -1,12 +1,6 @@
 -- Where a data word and a TDH with bit 13 clear lead from each state, and what it is to lead among data.
 -- Assumes nothing.
-use Prim.Native.Nat.{ℕ}
-use mathlib.Core.Path.{◌≡◌, refl, sym, ap, ◌∙◌}
-use mathlib.Core.Bool.{false, true≢false}
-use mathlib.Core.List.{List, [], ◌∷◌, ◌++◌}
-use mathlib.Core.Logic.{◌⊎◌}
-use lib.Dec.{eqb}
-use borrow.Author.Tests.{eq-eqb, ne_eqb}
+use Rattle.std.proofs.Common.{ℕ, ◌≡◌, refl, sym, ap, ◌∙◌, false, true≢false, List, [], ◌∷◌, ◌++◌, ◌⊎◌, eqb, eq-eqb, ne_eqb}
 use Rattle.words.specs.declared.Word.{Word}
 use Rattle.words.specs.Word.{id_of}
 use Rattle.words.specs.Tdh.{tdh_id, no_data}

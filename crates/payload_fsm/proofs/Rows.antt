@@ -1,7 +1,6 @@
 -- What holds of every row of a state's part of the table holds of what a word is taken as there.
 -- Assumes nothing.
-use mathlib.Core.Bool.{Bool, true, false, cond}
-use lib.Dec.{eqb}
+use Rattle.std.proofs.Common.{Bool, true, false, cond, eqb}
 use Rattle.words.specs.declared.Word.{Word}
 use Rattle.words.specs.Word.{id_of}
 use Rattle.words.specs.Tdh.{tdh_id}

@@ -1,14 +1,9 @@
 -- Of the Rust's event table: no event leads to DDW0_ or to DDW0_or_TDH_, and each step of ours is one of its events.
 -- Assumes nothing.
-use Prim.Native.Nat.{ℕ, zero, suc, ◌<◌}
-use mathlib.Core.Path.{◌≡◌, refl, sym, subst}
-use mathlib.Core.Bool.{Bool, true, false, ◌&&◌}
+use Rattle.std.proofs.Common.{ℕ, zero, suc, ◌<◌, ◌≡◌, refl, sym, subst, Bool, true, false}
+use Rattle.std.proofs.Common.{◌&&◌, List, [], ◌∷◌, ⊎_elim, le_of_suc-le-suc, not-suc-le-zero, T, eqb, lit<, length, get_or}
 use mathlib.Core.List.Memᴰ
-use mathlib.Core.List.{List, [], ◌∷◌, Memᴰ}
-use mathlib.Core.Logic.{⊎_elim}
-use native.Mathlib.Nat.{le_of_suc-le-suc, not-suc-le-zero}
-use lib.Dec.{T, eqb, lit<}
-use lib.ListN.{length, get_or}
+use mathlib.Core.List.{Memᴰ}
 use Rattle.words.specs.declared.Word.{Word}
 use Rattle.words.specs.Tdh.{no_data}
 use Rattle.payload_fsm.specs.declared.State.{State}

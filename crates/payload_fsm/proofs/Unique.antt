@@ -1,6 +1,6 @@
 -- Uniqueness: two answers that meet the contract of `advance` are equal.
 -- Assumes nothing.
-use mathlib.Core.Path.{◌≡◌}
+use Rattle.std.proofs.Common.{◌≡◌}
 use Rattle.words.specs.declared.Word.{Word}
 use Rattle.words.proofs.Unique.{unique}
 use Rattle.payload_fsm.specs.declared.State.{State}

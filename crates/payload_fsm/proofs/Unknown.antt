@@ -1,8 +1,6 @@
 -- "E990 can't be given": of our step, in every state and for every word. What an unknown id is given is 991 or 992.
 -- Assumes nothing.
-use Prim.Native.Nat.{ℕ}
-use mathlib.Core.Path.{◌≡◌, refl}
-use native.Mathlib.Omega.{arith}
+use Rattle.std.proofs.Common.{ℕ, ◌≡◌, refl, arith}
 use Rattle.words.specs.declared.Word.{Word}
 use Rattle.payload_fsm.specs.declared.State.{State}
 use Rattle.payload_fsm.specs.declared.State.TheVariants as S

@@ -1,6 +1,6 @@
 -- The kinds that a word is taken as: their numbers, and what they have in common.
 -- Assumes nothing.
-use Rattle.std.specs.Prelude.{ℕ, Bool, true, false}
+use Rattle.std.specs.Prelude.{ℕ, ◌≡◌, Bool, true, false}
 use Rattle.payload_fsm.specs.declared.ItsPayloadWord.{ItsPayloadWord}
 use Rattle.payload_fsm.specs.declared.ItsPayloadWord.TheVariants as K
 
@@ -15,6 +15,10 @@ kind_number K.DataWord = 6
 kind_number K.Cdw = 7
 kind_number K.Tdt = 8
 kind_number K.Ddw0 = 9
+
+-- What a conversion to a number gives.
+abbrev pub gives_kind_number : ItsPayloadWord → ℕ → Type 0
+gives_kind_number word n = n ≡ kind_number word
 
 -- An IHW, continuation too.
 abbrev pub is_ihw : ItsPayloadWord → Bool

@@ -3,93 +3,96 @@
 #![tactic(auto)]
 
 ghost use Rattle.std.specs.Prelude.{◌≡◌};
-ghost use Rattle.payload_fsm.specs.Kinds.{kind_number, is_ihw, is_tdh, is_data, is_tdt};
+ghost use Rattle.payload_fsm.specs.Kinds.{gives_kind_number, is_ihw, is_tdh, is_data, is_tdt};
+ghost use Rattle.payload_fsm.specs.States.{gives_state_number, gives_state};
 ghost use Rattle.payload_fsm.specs.Step.{start, is_three, taken, guess, after_tdh, in_data, in_three, advance_of};
 
 use words::Word;
 use words::cdw::Cdw;
 use words::ddw::Ddw0;
 use words::ihw::Ihw;
+use words::status_word::StatusWord;
 use words::tdh::Tdh;
 use words::tdt::Tdt;
 
-// The states that are reached, each with the Rust's name.
-#[derive(Clone, Copy)]
+// The states that are reached, each with the Rust's name, and the number by which a tracker's memory has it.
+#[derive(Clone, Copy, Debug, PartialEq, Eq)]
 pub enum State {
     // IHW_, where a machine starts
-    Ihw,
+    Ihw = 0,
     // TDH_
-    Tdh,
+    Tdh = 1,
     // DATA_
-    Data,
+    Data = 2,
     // c_DATA_
-    CData,
+    CData = 3,
     // DDW0_or_TDH_or_IHW_, the three-way state
-    Three,
+    Three = 4,
     // c_IHW_
-    CIhw,
+    CIhw = 5,
     // c_TDH_
-    CTdh,
+    CTdh = 6,
 }
+
+// A number that is no state's: above 6.
+#[derive(Clone, Copy, Debug, PartialEq, Eq)]
+pub struct UnknownState(pub u64);
 
 impl State {
     // The three-way state.
     pub fn is_three(self) -> bool
         ensures { result ≡ is_three self }
     {
-        match self {
-            State::Ihw => false,
-            State::Tdh => false,
-            State::Data => false,
-            State::CData => false,
-            State::Three => true,
-            State::CIhw => false,
-            State::CTdh => false,
+        matches!(self, State::Three)
+    }
+}
+
+impl From<State> for u64 {
+    ghost from_gives = { gives_state_number };
+
+    fn from(state: State) -> u64 {
+        state as u64
+    }
+}
+
+impl TryFrom<u64> for State {
+    type Error = UnknownState;
+
+    ghost try_from_gives = { gives_state };
+
+    fn try_from(n: u64) -> Result<State, UnknownState> {
+        match n {
+            0 => Ok(State::Ihw),
+            1 => Ok(State::Tdh),
+            2 => Ok(State::Data),
+            3 => Ok(State::CData),
+            4 => Ok(State::Three),
+            5 => Ok(State::CIhw),
+            6 => Ok(State::CTdh),
+            _ => Err(UnknownState(n)),
         }
     }
 }
 
-// What a word is taken as.
-#[derive(Clone, Copy)]
+// What a word is taken as, with a number for those who get no enum; 0 is none, for a refused word.
+#[derive(Clone, Copy, Debug, PartialEq, Eq)]
 pub enum ItsPayloadWord {
-    Ihw,
-    IhwContinuation,
-    Tdh,
-    TdhAfterPacketDone,
-    TdhContinuation,
-    DataWord,
-    Cdw,
-    Tdt,
-    Ddw0,
+    Ihw = 1,
+    IhwContinuation = 2,
+    Tdh = 3,
+    TdhAfterPacketDone = 4,
+    TdhContinuation = 5,
+    DataWord = 6,
+    Cdw = 7,
+    Tdt = 8,
+    Ddw0 = 9,
 }
 
-#[derive(Clone, Copy)]
-pub struct ItsPayloadFsmContinuous {
-    pub state: State,
-}
+impl From<ItsPayloadWord> for u8 {
+    ghost from_gives = { gives_kind_number };
 
-// What a word was taken as, whether that was a guess, and the machine after it.
-#[derive(Clone, Copy)]
-pub struct Advanced {
-    pub word: ItsPayloadWord,
-    pub guessed: bool,
-    pub fsm: ItsPayloadFsmContinuous,
-}
-
-// The number of a kind, for those who get no enum.
-pub fn kind_number(word: ItsPayloadWord) -> u8
-    ensures { result ≡ kind_number word }
-{
-    match word {
-        ItsPayloadWord::Ihw => 1,
-        ItsPayloadWord::IhwContinuation => 2,
-        ItsPayloadWord::Tdh => 3,
-        ItsPayloadWord::TdhAfterPacketDone => 4,
-        ItsPayloadWord::TdhContinuation => 5,
-        ItsPayloadWord::DataWord => 6,
-        ItsPayloadWord::Cdw => 7,
-        ItsPayloadWord::Tdt => 8,
-        ItsPayloadWord::Ddw0 => 9,
+    fn from(word: ItsPayloadWord) -> u8 {
+        word as u8
     }
 }
 
@@ -98,76 +101,54 @@ impl ItsPayloadWord {
     pub fn is_ihw(self) -> bool
         ensures { result ≡ is_ihw self }
     {
-        match self {
-            ItsPayloadWord::Ihw => true,
-            ItsPayloadWord::IhwContinuation => true,
-            ItsPayloadWord::Tdh => false,
-            ItsPayloadWord::TdhAfterPacketDone => false,
-            ItsPayloadWord::TdhContinuation => false,
-            ItsPayloadWord::DataWord => false,
-            ItsPayloadWord::Cdw => false,
-            ItsPayloadWord::Tdt => false,
-            ItsPayloadWord::Ddw0 => false,
-        }
+        matches!(self, ItsPayloadWord::Ihw | ItsPayloadWord::IhwContinuation)
     }
 
     // A TDH of any of its three kinds.
     pub fn is_tdh(self) -> bool
         ensures { result ≡ is_tdh self }
     {
-        match self {
-            ItsPayloadWord::Ihw => false,
-            ItsPayloadWord::IhwContinuation => false,
-            ItsPayloadWord::Tdh => true,
-            ItsPayloadWord::TdhAfterPacketDone => true,
-            ItsPayloadWord::TdhContinuation => true,
-            ItsPayloadWord::DataWord => false,
-            ItsPayloadWord::Cdw => false,
-            ItsPayloadWord::Tdt => false,
-            ItsPayloadWord::Ddw0 => false,
-        }
+        matches!(
+            self,
+            ItsPayloadWord::Tdh
+                | ItsPayloadWord::TdhAfterPacketDone
+                | ItsPayloadWord::TdhContinuation
+        )
     }
 
     // A data word or CDW.
     pub fn is_data(self) -> bool
         ensures { result ≡ is_data self }
     {
-        match self {
-            ItsPayloadWord::Ihw => false,
-            ItsPayloadWord::IhwContinuation => false,
-            ItsPayloadWord::Tdh => false,
-            ItsPayloadWord::TdhAfterPacketDone => false,
-            ItsPayloadWord::TdhContinuation => false,
-            ItsPayloadWord::DataWord => true,
-            ItsPayloadWord::Cdw => true,
-            ItsPayloadWord::Tdt => false,
-            ItsPayloadWord::Ddw0 => false,
-        }
+        matches!(self, ItsPayloadWord::DataWord | ItsPayloadWord::Cdw)
     }
 
     // A TDT.
     pub fn is_tdt(self) -> bool
         ensures { result ≡ is_tdt self }
     {
-        match self {
-            ItsPayloadWord::Ihw => false,
-            ItsPayloadWord::IhwContinuation => false,
-            ItsPayloadWord::Tdh => false,
-            ItsPayloadWord::TdhAfterPacketDone => false,
-            ItsPayloadWord::TdhContinuation => false,
-            ItsPayloadWord::DataWord => false,
-            ItsPayloadWord::Cdw => false,
-            ItsPayloadWord::Tdt => true,
-            ItsPayloadWord::Ddw0 => false,
-        }
+        matches!(self, ItsPayloadWord::Tdt)
     }
+}
+
+#[derive(Clone, Copy, Debug, PartialEq, Eq)]
+pub struct ItsPayloadFsmContinuous {
+    pub state: State,
+}
+
+// What a word was taken as, whether that was a guess, and the machine after it.
+#[derive(Clone, Copy, Debug, PartialEq, Eq)]
+pub struct Advanced {
+    pub word: ItsPayloadWord,
+    pub guessed: bool,
+    pub fsm: ItsPayloadFsmContinuous,
 }
 
 // Where a TDH leads: to its data, or with no data straight to the three-way state.
 fn after_tdh(word: Word) -> State
     ensures { result ≡ after_tdh word }
 {
-    let tdh = Tdh { word: word };
+    let tdh = Tdh { word };
     if tdh.no_data() == 0 {
         State::Data
     } else {
@@ -179,7 +160,7 @@ fn taken(word: ItsPayloadWord, next: State) -> Advanced
     ensures { result ≡ taken word next }
 {
     Advanced {
-        word: word,
+        word,
         guessed: false,
         fsm: ItsPayloadFsmContinuous { state: next },
     }
@@ -189,7 +170,7 @@ fn guess(word: ItsPayloadWord, next: State) -> Advanced
     ensures { result ≡ guess word next }
 {
     Advanced {
-        word: word,
+        word,
         guessed: true,
         fsm: ItsPayloadFsmContinuous { state: next },
     }
@@ -201,7 +182,7 @@ fn in_data(state: State, word: Word) -> Advanced
 {
     let id = word.id();
     if id == Tdt::ID {
-        let tdt = Tdt { word: word };
+        let tdt = Tdt { word };
         if tdt.packet_done() {
             return taken(ItsPayloadWord::Tdt, State::Three);
         }
@@ -258,8 +239,7 @@ impl ItsPayloadFsmContinuous {
         match state {
             State::Ihw => taken(ItsPayloadWord::Ihw, State::Tdh),
             State::Tdh => taken(ItsPayloadWord::Tdh, next),
-            State::Data => in_data(state, word),
-            State::CData => in_data(state, word),
+            State::Data | State::CData => in_data(state, word),
             State::Three => in_three(word),
             State::CIhw => taken(ItsPayloadWord::IhwContinuation, State::CTdh),
             State::CTdh => taken(ItsPayloadWord::TdhContinuation, State::CData),

@@ -1,14 +1,45 @@
 -- Laws of the records that rows give: how many there are, when there are none, what holds of each, and of rows one after the other.
 -- Assumes nothing.
-use Prim.Native.Nat.{ℕ, zero, suc, ◌+◌, ◌-◌, ◌*◌, ◌≤◌, ◌<◌}
-use mathlib.Core.Path.{◌≡◌, refl, sym, ap, ◌∙◌}
-use mathlib.Core.Bool.{Bool, true, false, cond, not, ◌||◌, or_assoc, or-false, true≢false}
-use mathlib.Core.List.{List, [], ◌∷◌, ◌++◌, append_assoc, append-nil}
-use native.Mathlib.Nat.{add_assoc, add-zero, zero-add}
-use native.Mathlib.Numerals.{add-one}
-use native.Mathlib.Omega.{arith}
-use lib.ListN.{length, get_or, take, replicate, length-append}
-use lib.Seq.{take-suc}
+use Rattle.std.proofs.Common.{
+  ℕ,
+  zero,
+  suc,
+  ◌+◌,
+  ◌-◌,
+  ◌*◌,
+  ◌≤◌,
+  ◌<◌,
+  ◌≡◌,
+  refl,
+  sym,
+  ap,
+  ◌∙◌,
+  Bool,
+  true,
+  false,
+  cond,
+  not,
+  ◌||◌,
+  true≢false,
+  List,
+  [],
+  ◌∷◌,
+  ◌++◌,
+  append_assoc,
+  append-nil,
+  add_assoc,
+  add-zero,
+  zero-add,
+  add-one,
+  length,
+  get_or,
+  take,
+  replicate,
+  length-append,
+  take-suc,
+  arith,
+}
+use mathlib.Core.Bool.{or_assoc, or-false}
 use Rattle.records.specs.declared.Row.{Row}
 use Rattle.words.specs.Lists.{Each}
 use Rattle.records.specs.Records.{Record, record_at, none, numbers, flat, given, count, any_on, silent, record_width, most_records, padded}

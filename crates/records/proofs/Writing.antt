@@ -1,16 +1,40 @@
 -- The loop of `write`: what stands in the buffer after the rows passed, over lists alone.
 -- Assumes nothing.
-use Prim.Native.Nat.{ℕ, ◌+◌, ◌-◌, ◌*◌, ◌≤◌, ◌<◌}
-use mathlib.Core.Path.{◌≡◌, refl, sym, ap, ◌∙◌}
-use mathlib.Core.Bool.{true, false}
-use mathlib.Core.List.{List, [], ◌∷◌, ◌++◌, append-nil}
-use native.Mathlib.Omega.{arith}
+use Rattle.std.proofs.Common.{
+  ℕ,
+  ◌+◌,
+  ◌-◌,
+  ◌*◌,
+  ◌≤◌,
+  ◌<◌,
+  ◌≡◌,
+  refl,
+  sym,
+  ap,
+  ◌∙◌,
+  true,
+  false,
+  List,
+  [],
+  ◌∷◌,
+  ◌++◌,
+  append-nil,
+  length,
+  get_or,
+  take,
+  drop,
+  length-append,
+  length-drop,
+  take-append-drop,
+  take_all,
+  Ok,
+  Err,
+  arith,
+}
 use borrow.Author.Tests.{lt-ltb, le-ltb}
 use borrow.Rule.Slice.PartMut.{put_mid, mid_of}
-use lib.ListN.{length, get_or, take, drop, length-append, length-drop, take-append-drop}
-use lib.Seq.{take_all}
+use Rattle.refusals.specs.declared.Refusal.TheVariants.{Room}
 use Rattle.records.specs.declared.Row.{Row}
-use Rattle.records.specs.declared.Written.TheVariants.{Records, NoRoom}
 use Rattle.words.specs.Lists.{over}
 use Rattle.records.specs.Records.{Record, record_at, none, numbers, flat, given, count, record_width, room, WritePost}
 use Rattle.records.proofs.Given.{counted, given_append, given_more, flat_append, length_flat}
@@ -100,7 +124,7 @@ tail_long a n d h = rw (mid_tail a d) (simp length-drop (omega arith))
 
 -- The records exceed the room: the buffer stays.
 pub refused : (position packet : ℕ) (rows : List Row) (out : List ℕ) → length out < record_width * count rows
-    → WritePost position packet rows out NoRoom out
+    → WritePost position packet rows out (Err Room) out
 refused position packet rows out h =
     let e = lt-ltb (room out) (length (given position packet rows)) (omega (arith, counted position packet rows)) in
     record { answer = simp e; number = simp e; value = simp e; buffer_is = simp e }
@@ -108,12 +132,12 @@ refused position packet rows out h =
 -- After all rows.
 pub written : (position packet : ℕ) (rows : List Row) (out₀ out : List ℕ) (used i n : ℕ) → Going position packet rows out₀ out used i
     → length rows ≤ i → n ≡ count rows
-    → record_width * count rows ≤ length out₀ → WritePost position packet rows out₀ (Records n) out
+    → record_width * count rows ≤ length out₀ → WritePost position packet rows out₀ (Ok n) out
 written position packet rows out₀ out used i n g le e h =
     let c = counted position packet rows in
     let fits = le-ltb (room out₀) (length (given position packet rows)) (omega arith) in
     record {
-      answer = simp fits (ap Records (e ∙ sym c));
+      answer = simp fits (ap Ok (e ∙ sym c));
       number = simp fits;
       value = simp fits (e ∙ sym c);
       buffer_is =

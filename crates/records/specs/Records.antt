@@ -1,10 +1,11 @@
 -- 01, "Calls and settings": what a record is, which records a word's rows give, and what a buffer then holds.
 -- Assumes nothing.
-use Rattle.std.specs.Prelude.{ℕ, ◌+◌, ◌-◌, ◌/◌, ◌≡◌, Bool, false, cond, not, ◌||◌, List, [], ◌∷◌, ◌++◌, ltb, length, replicate}
+use Rattle.std.specs.Prelude.{ℕ, ◌+◌, ◌-◌, ◌/◌, ◌≡◌, Bool, false, cond, not, ◌||◌, List, [], ◌∷◌, ◌++◌, ltb, length, replicate, Result, Ok, Err}
+use Rattle.refusals.specs.declared.Refusal.{Refusal}
+use Rattle.refusals.specs.declared.Refusal.TheVariants.{Room}
+use Rattle.refusals.specs.Refusals.{code}
 use Rattle.words.specs.Lists.{over}
 use Rattle.records.specs.declared.Row.{Row}
-use Rattle.records.specs.declared.Written.{Written}
-use Rattle.records.specs.declared.Written.TheVariants.{Records, NoRoom}
 
 -- "A record is four 64-bit numbers: position, code, first, second"; 02, ticket 7: "Each record gains a fifth number, the count of packets accepted since the
 -- start, beginning at 1. .. The record buffer is five numbers a record everywhere".
@@ -70,18 +71,15 @@ room buffer = length buffer / record_width
 abbrev pub exceed : List Record → ℕ → Bool
 exceed records places = ltb places (length records)
 
--- "Where an answer is an enum, a definition gives this paper's number and values for each of its cases": the refusal, or 0 and how many were written.
-abbrev pub refusal_of : Written → ℕ
-refusal_of (Records n) = 0
-refusal_of NoRoom = 4
-
-abbrev pub written_of : Written → ℕ
-written_of (Records n) = n
-written_of NoRoom = 0
+-- "Where an answer is an enum, a definition gives this paper's number and values for each of its cases": the refusal, or 0 (`code`), and how many were
+-- written.
+abbrev pub written_of : Result ℕ Refusal → ℕ
+written_of (Ok n) = n
+written_of (Err r) = 0
 
 -- What writing a word's records gives.
-pub record WritePost (position packet : ℕ) (rows : List Row) (buffer : List ℕ) (r : Written) (after : List ℕ) : Type 0 where
-  pub answer : r ≡ cond (exceed (given position packet rows) (room buffer)) NoRoom (Records (length (given position packet rows)))
-  pub number : refusal_of r ≡ cond (exceed (given position packet rows) (room buffer)) 4 0
+pub record WritePost (position packet : ℕ) (rows : List Row) (buffer : List ℕ) (r : Result ℕ Refusal) (after : List ℕ) : Type 0 where
+  pub answer : r ≡ cond (exceed (given position packet rows) (room buffer)) (Err Room) (Ok (length (given position packet rows)))
+  pub number : code r ≡ cond (exceed (given position packet rows) (room buffer)) 4 0
   pub value : written_of r ≡ cond (exceed (given position packet rows) (room buffer)) 0 (length (given position packet rows))
   pub buffer_is : after ≡ cond (exceed (given position packet rows) (room buffer)) buffer (over (flat (given position packet rows)) buffer)

@@ -2,16 +2,18 @@
 -- Assumes nothing.
 use Prim.Native.Nat.{ℕ, ◌+◌, ◌≤◌}
 use mathlib.Core.Path.{◌≡◌, refl, sym, ap}
+use Rattle.std.proofs.Common.{Option, Some, None}
 use mathlib.Core.Bool.{true, true≢false}
 use mathlib.Core.List.{List, [], ◌++◌, append-nil, append_assoc}
 use native.Mathlib.Nat.{add-zero, add_assoc}
 use native.Mathlib.Omega.{arith}
 use lib.ListN.{length, length-append}
+use Rattle.refusals.specs.Refusals.{number}
 use Rattle.words.specs.Word.{word_of}
 use Rattle.packet.specs.declared.Packet.{Packet}
 use Rattle.records.specs.Records.{Record, most_records}
 use Rattle.cdp_running.specs.declared.Tracker.{Tracker}
-use Rattle.cdp_running.specs.declared.PacketAnswer.{PacketAnswer}
+use Rattle.cdp_running.specs.Told.{PacketAnswer}
 use Rattle.cdp_running.specs.Tracker.{Good, packet_call}
 use Rattle.cdp_running.specs.Word.{Outcome, taken, refused, taken_of, word_call, word_answer, records_in}
 use Rattle.cdp_running.proofs.Good.{good_accept, good_next}
@@ -29,7 +31,7 @@ use Rattle.report.specs.declared.Stage.TheVariants as S
 use Rattle.report.specs.declared.Report.{Report}
 use Rattle.report.specs.Text.{lines, heading, records_line, refused_line}
 use Rattle.report.specs.File.{records_from}
-use Rattle.report.specs.Report.{to_come, at_stage, item_step, step_of, is_done, GoodReading, GoodReport, printer}
+use Rattle.report.specs.Report.{to_come, at_stage, item_step, step_of, is_done, steps_left, GoodReading, GoodReport, printer}
 use Rattle.report.proofs.Lines.{lines_append}
 
 -- A packet call and a word call keep the tracker good, and a word gives at most six records.
@@ -57,27 +59,17 @@ lines_of rs count = lines rs ++ records_line (count + length rs)
 abbrev rest_at : List ℕ → Report → Stage → List ℕ
 rest_at file r S.Heading = heading ++ lines_of (records_from r.tracker (to_come file r)) r.count
 rest_at file r S.Items = lines_of (records_from r.tracker (to_come file r)) r.count
-rest_at file r (S.Refused n) = refused_line n
+rest_at file r (S.Refused refusal) = refused_line (number refusal)
 rest_at file r S.Done = []
 
 unfoldable pub rest_of : List ℕ → Report → List ℕ
 rest_of file r = rest_at file r r.stage
 
--- At most so many steps are left.
-abbrev steps_at : ℕ → Stage → ℕ
-steps_at n S.Heading = n + 2
-steps_at n S.Items = n + 1
-steps_at n (S.Refused m) = 1
-steps_at n S.Done = 0
-
-unfoldable pub steps_left : List ℕ → Report → ℕ
-steps_left file r = steps_at (length (to_come file r)) r.stage
-
 -- There is one stage of a report that is done.
 is_done_lem : (s : Stage) → is_done s ≡ true → s ≡ S.Done
 is_done_lem S.Heading e = cc
 is_done_lem S.Items e = cc
-is_done_lem (S.Refused n) e = cc
+is_done_lem (S.Refused refusal) e = cc
 is_done_lem S.Done e = refl
 
 module _ (file : List ℕ) where
@@ -90,11 +82,11 @@ module _ (file : List ℕ) where
   all_done r g = record { tracker = g; going = λ h. absurd (true≢false (sym h)) }
 
   -- The step by what the reader found.
-  item : (r : Report) → Good r.tracker → GoodReading file r → (x : Found)
+  item : (r : Report) → Good r.tracker → GoodReading file r → (x : Option Found)
       → next_found file r.packet r.word r.left ≡ x
       → Moved (at_stage S.Items r) (item_step file r x)
   unfolding rest_of steps_left records_from lines
-  item r g reads (F.Packet p words) e =
+  item r g reads (Some (F.Packet p words)) e =
       let given = packet_given (sound file reads.checked) reads.place e in
       record {
         good =
@@ -102,7 +94,7 @@ module _ (file : List ℕ) where
         front = rw given.comes;
         less = λ _. omega (arith, ap length given.comes);
       }
-  item r g reads (F.Word at) e =
+  item r g reads (Some (F.Word at)) e =
       let given = word_given (sound file reads.checked) reads.place e in
       let kept = good_word r.tracker (bytes_at file at) g in
       record {
@@ -111,7 +103,7 @@ module _ (file : List ℕ) where
         front = simp (given.comes, lines_append, length-append, append_assoc, add_assoc);
         less = λ _. omega (arith, ap length given.comes);
       }
-  item r g reads F.End e =
+  item r g reads None e =
       let none = end_given (sound file reads.checked) reads.place e in
       record { good = all_done r g; front = rw (none, append-nil, add-zero); less = λ _. omega (arith, ap length none) }
 
@@ -127,8 +119,8 @@ module _ (file : List ℕ) where
         less = λ _. omega arith;
       }
   stage S.Items r g = item (at_stage S.Items r) g.tracker (g.going refl) _ refl
-  stage (S.Refused n) r g =
-      record { good = all_done r g.tracker; front = append-nil (refused_line n); less = λ _. omega arith }
+  stage (S.Refused refusal) r g =
+      record { good = all_done r g.tracker; front = append-nil (refused_line (number refusal)); less = λ _. omega arith }
   stage S.Done r g = record { good = g; front = refl; less = λ e. absurd (true≢false e) }
 
   pub laws : Laws (printer file) (rest_of file) (steps_left file)

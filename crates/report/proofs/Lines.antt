@@ -1,17 +1,17 @@
 -- Lines of records, and records that stand in a buffer.
 -- Assumes nothing.
-use Prim.Native.Nat.{ℕ, zero, suc, ◌+◌, ◌-◌, ◌*◌}
+use Prim.Native.Nat.{ℕ, suc, ◌+◌, ◌-◌, ◌*◌, ◌/◌, ◌≤◌, ◌<◌}
 use mathlib.Core.Path.{◌≡◌, refl, sym, ap, subst, ◌∙◌}
 use mathlib.Core.List.{List, [], ◌∷◌, ◌++◌, append-nil, append_assoc}
-use native.Mathlib.Numerals.{add-one}
 use native.Mathlib.Omega.{arith}
-use borrow.Rule.Slice.PartMut.{put_mid, mid_of}
-use lib.ListN.{length, get_or, drop}
-use lib.Seq.{get_or-drop}
+use borrow.Rule.Slice.PartMut.{put_mid, mid_of, same_len_mid}
+use lib.ListN.{length, take, length-append}
+use lib.Seq.{take-append_seam}
 use Rattle.records.specs.Records.{Record, flat, record_width}
+use Rattle.records.proofs.Given.{length_flat}
 use Rattle.ascii.specs.Text.{Puts}
-use Rattle.ascii.proofs.Putting.{behind}
-use Rattle.report.specs.Text.{line, lines, first_record, records_at}
+use Rattle.ascii.proofs.Putting.{behind, none_put}
+use Rattle.report.specs.Text.{line, lines, most_line, first_record, records_at, all_records}
 
 pub lines_append : (xs ys : List Record) → lines (xs ++ ys) ≡ lines xs ++ lines ys
 unfolding lines
@@ -19,61 +19,76 @@ lines_append [] ys = refl
 lines_append (x ∷ xs) ys =
     ap (λ (l : List ℕ). line x ++ l) (lines_append xs ys) ∙ sym (append_assoc (line x) (lines xs) (lines ys))
 
--- The record whose numbers stand from a place on.
-abbrev pub record_from : List ℕ → ℕ → Record
-record_from d at =
-    record {
-      position = get_or d at 0;
-      code = get_or d (at + 1) 0;
-      first = get_or d (at + 2) 0;
-      second = get_or d (at + 3) 0;
-      packet = get_or d (at + 4) 0;
-    }
-
--- One record more.
-records_more : (i : ℕ) (d : List ℕ) → records_at (suc i) d ≡ records_at i d ++ (record_from d (record_width * i) ∷ [])
+-- The next record of numbers.
+record_first : (x rest : List ℕ) → length x ≡ 5 → (n : ℕ) → records_at (suc n) (x ++ rest) ≡ first_record x ∷ records_at n rest
 unfolding records_at
-records_more zero d = refl
-records_more (suc i) d =
-    ap (λ (l : List Record). first_record d ∷ l)
-    (records_more i (drop record_width d) ∙ ap (λ (r : Record). records_at i (drop record_width d) ++ (r ∷ [])) here)
-  where
-    at : (k j : ℕ) → record_width + k ≡ j → get_or (drop record_width d) k 0 ≡ get_or d j 0
-    at k j e = get_or-drop record_width d k 0 ∙ ap (λ (n : ℕ). get_or d n 0) e
+record_first (a ∷ b ∷ c ∷ d ∷ e ∷ []) rest h n = refl
+record_first [] rest h n = absurd (omega arith)
+record_first (a ∷ []) rest h n = absurd (omega arith)
+record_first (a ∷ b ∷ []) rest h n = absurd (omega arith)
+record_first (a ∷ b ∷ c ∷ []) rest h n = absurd (omega arith)
+record_first (a ∷ b ∷ c ∷ d ∷ []) rest h n = absurd (omega arith)
+record_first (a ∷ b ∷ c ∷ d ∷ e ∷ f ∷ x) rest h n = absurd (omega arith)
 
-    here : record_from (drop record_width d) (record_width * i) ≡ record_from d (record_width * suc i)
-    here =
-        λ j. record {
-          position = at (record_width * i) (record_width * suc i) (omega arith) j;
-          code = at (record_width * i + 1) (record_width * suc i + 1) (omega arith) j;
-          first = at (record_width * i + 2) (record_width * suc i + 2) (omega arith) j;
-          second = at (record_width * i + 3) (record_width * suc i + 3) (omega arith) j;
-          packet = at (record_width * i + 4) (record_width * suc i + 4) (omega arith) j;
+-- The lines of the records passed stand at the front of a buffer, and there is room for those of the rest.
+pub record Passing (records start out : List ℕ) (used : ℕ) (rest : List ℕ) : Type 0 where
+  pub same : length out ≡ length start
+  pub room : used + length rest / record_width * most_line ≤ length start
+  pub passed : List Record
+  pub puts : Puts (lines passed) start used out
+  pub whole : passed ++ all_records rest ≡ all_records records
+
+module _ {records start : List ℕ} where
+  pub pass_none : length records / record_width * most_line ≤ length start → Passing records start start 0 records
+  unfolding lines
+  pass_none h = record { same = refl; room = omega arith; passed = []; puts = none_put start; whole = refl }
+
+  module _ (x rest : List ℕ) {out all : List ℕ} {used : ℕ} (p : Passing records start out used all) (e : all ≡ x ++ rest)
+      (h : length x ≡ record_width) where
+    more : length all / record_width ≡ suc (length rest / record_width)
+    more = omega (arith, ap length e, length-append x rest, h)
+
+    pub line_room : used + most_line ≤ length out
+    line_room = omega (arith, p.room, p.same, more)
+
+    pub pass_one : {y : List ℕ} {n : ℕ} → Puts (line (first_record x)) (mid_of used (length out - used) out) n y → n ≤ most_line
+        → length y ≡ length (mid_of used (length out - used) out)
+        → Passing records start (put_mid used (length out - used) out y) (used + n) rest
+    unfolding lines
+    pass_one {y} {n} q most kept =
+        let r = first_record x in
+        let text : lines p.passed ++ line r ≡ lines (p.passed ++ (r ∷ [])) =
+        sym (lines_append p.passed (r ∷ []) ∙ ap (λ (l : List ℕ). lines p.passed ++ l) (append-nil (line r))) in
+        record {
+          same = same_len_mid used (length out - used) out y kept ∙ p.same;
+          room = omega (arith, p.room, more);
+          passed = p.passed ++ (r ∷ []);
+          puts =
+              subst (λ (t : List ℕ). Puts t start (used + n) (put_mid used (length out - used) out y)) text (behind p.puts q);
+          whole =
+              append_assoc p.passed (r ∷ []) (all_records rest)
+              ∙ ap (λ (l : List Record). p.passed ++ l)
+              (sym (rw (more, e) (record_first x rest h (length rest / record_width))))
+              ∙ p.whole;
         }
 
-lines_more : (i : ℕ) (d : List ℕ) → lines (records_at i d) ++ line (record_from d (record_width * i))
-    ≡ lines (records_at (i + 1) d)
-unfolding lines
-lines_more i d =
-    let r = record_from d (record_width * i) in
-    sym
-    (ap (λ (n : ℕ). lines (records_at n d)) (add-one i) ∙ ap lines (records_more i d)
-    ∙ lines_append (records_at i d) (r ∷ [])
-    ∙ ap (λ (l : List ℕ). lines (records_at i d) ++ l) (append-nil (line r)))
+  pub pass_all : {out rest : List ℕ} {used : ℕ} → Passing records start out used rest → length rest < record_width
+      → Puts (lines (all_records records)) start used out
+  unfolding records_at
+  pass_all {out} {rest} {used} p h =
+      let none : length rest / record_width ≡ 0 = omega arith in
+      let whole : p.passed ≡ all_records records =
+      sym (append-nil p.passed) ∙ ap (λ (n : ℕ). p.passed ++ records_at n rest) (sym none) ∙ p.whole in
+      subst (λ (rs : List Record). Puts (lines rs) start used out) whole p.puts
 
--- The line of the next record behind the lines of those before it.
-pub line_behind : (records : List ℕ) (i : ℕ) {d l y : List ℕ} {r s : ℕ} → Puts (lines (records_at i records)) d r l
-    → Puts (line (record_from records (record_width * i))) (mid_of r (length l - r) l) s y
-    → Puts (lines (records_at (i + 1) records)) d (r + s) (put_mid r (length l - r) l y)
-line_behind records i {d} {l} {y} {r} {s} p q =
-    subst (λ (t : List ℕ). Puts t d (r + s) (put_mid r (length l - r) l y)) (lines_more i records) (behind p q)
-
-pub none_yet : (records d : List ℕ) → Puts (lines (records_at 0 records)) d 0 d
-unfolding lines records_at
-none_yet records d = record { count = refl; buffer_is = refl }
-
--- Records that were written stand there.
-pub records_written : (rs : List Record) (d : List ℕ) → records_at (length rs) (flat rs ++ d) ≡ rs
+-- Records that were written are those of the numbers.
+records_written : (rs : List Record) → records_at (length rs) (flat rs) ≡ rs
 unfolding records_at flat
-records_written [] d = refl
-records_written (r ∷ rs) d = ap (λ (l : List Record). r ∷ l) (records_written rs d)
+records_written [] = refl
+records_written (r ∷ rs) = ap (λ (l : List Record). r ∷ l) (records_written rs)
+
+pub all_written : (rs : List Record) (d : List ℕ) → all_records (take (record_width * length rs) (flat rs ++ d)) ≡ rs
+all_written rs d =
+    let long = length_flat rs in
+    let n : length (flat rs) / record_width ≡ length rs = omega arith in
+    rw (sym long, take-append_seam) (ap (λ (k : ℕ). records_at k (flat rs)) n ∙ records_written rs)

@@ -10,6 +10,7 @@ use lib.Dec.{eqb}
 use lib.ListN.{length}
 use Rattle.bench_file.specs.File.{check_of}
 use Rattle.bench_file.specs.Items.{items}
+use Rattle.bench_file.proofs.Known.{check_known}
 use Rattle.bench_file.proofs.Reading.{all_to_come}
 use Rattle.ascii.specs.Steps.{StepPost, Steps}
 use Rattle.ascii.proofs.Steps.{Ends, onward, steps_print, ends}
@@ -17,9 +18,9 @@ pub use Rattle.ascii.proofs.Steps.{step_fits}
 use Rattle.report.specs.declared.Report.{Report}
 use Rattle.report.specs.Text.{most_printed}
 use Rattle.report.specs.File.{file_records, text}
-use Rattle.report.specs.Report.{start_report, is_done, GoodReport, printer}
+use Rattle.report.specs.Report.{start_report, is_done, steps_left, GoodReport, printer}
 use Rattle.report.proofs.Steps.{good_start}
-use Rattle.report.proofs.Keeping.{rest_of, steps_left, laws}
+use Rattle.report.proofs.Keeping.{rest_of, laws}
 
 -- For who calls `step`: with room for a word's lines fewer steps are left.
 pub step_onward : {file : List ℕ} {r next : Report} {d d' : List ℕ} {n : ℕ} → StepPost (printer file) r d next n d'
@@ -40,7 +41,7 @@ start_left file = at (eqb (check_of file) 0) refl
   where
     at : (b : Bool) → eqb (check_of file) 0 ≡ b → AllLeft file
     at true e = (simp (e, all_to_come file, zero-add), simp e (omega (arith, ap length (all_to_come file))))
-    at false e = (simp e, simp e (omega arith))
+    at false e = (simp (e, check_known file e), simp e (omega arith))
 
 -- What the steps print is the text of the file, whatever the sizes of the buffers; they are at most as many as the file has packets, words and two.
 module _ (file : List ℕ) {n : ℕ} {out : List ℕ} (steps : Steps (printer file) (start_report file) n out) where

@@ -14,7 +14,7 @@ use Rattle.words.specs.Word.{word_of}
 use Rattle.packet.specs.Packet.{most_packets}
 use Rattle.records.specs.Records.{most_records}
 use Rattle.cdp_running.specs.declared.Tracker.{Tracker}
-use Rattle.cdp_running.specs.declared.PacketAnswer.{PacketAnswer}
+use Rattle.cdp_running.specs.Told.{PacketAnswer}
 use Rattle.cdp_running.specs.Tracker.{start_of, packet_call}
 use Rattle.cdp_running.specs.Next.{next_tracker as after_word}
 use Rattle.cdp_running.specs.Word.{taken_as, Outcome, taken_of, word_call, word_answer}
@@ -22,7 +22,7 @@ use Rattle.cdp_running.proofs.Outcome.{packet_admitted, accepted_admitted, admit
 use Rattle.cdp_running.proofs.Fine.{few_records}
 use Rattle.bench_file.specs.File.{bytes_at, check_of}
 use Rattle.bench_file.specs.Items.{Item, packet, word, items}
-use Rattle.bench_file.specs.Reader.{reader_at, past_packet, Gives, end, packet_first, then_word, Sound, Place}
+use Rattle.bench_file.specs.Reader.{reader_at, past_packet, as_packet, as_word, Gives, end, packet_first, then_word, Sound, Place}
 use Rattle.bench_file.proofs.Reading.{sound, asks_word, packet_given, word_given, at_start, reader_gives}
 use Rattle.report.specs.File.{settings, AllAccepted, packets_in, tracker_from}
 
@@ -56,7 +56,7 @@ module _ (bytes : Bor (List ℕ)) (s : Sound bytes.now) where
   unfolding AllAccepted
   all_accepted (end e) place t h = tt
   all_accepted {i} (packet_first {p = p} {count = count} e rest) place t h =
-      let given = packet_given s place e in
+      let given = packet_given s place (ap as_packet e) in
       let few : t.packets < most_packets = omega (arith, h.counted, given.one_on, given.next.within, s.packets_few) in
       let a = packet_admitted t p given.in_range_is few in
       let next : Takes (packet_call t p).tracker (past_packet bytes.now i) count =
@@ -68,7 +68,7 @@ module _ (bytes : Bor (List ℕ)) (s : Sound bytes.now) where
       }) in
       (ap (λ (r : PacketAnswer). r.refusal) a.is, all_accepted rest given.next (packet_call t p).tracker next)
   all_accepted {i} {n} (then_word {left = left} {at = at} e rest) place t h =
-      let given = word_given s place (asks_word bytes.now i n left ∙ e) in
+      let given = word_given s place (asks_word bytes.now i n left ∙ ap as_word e) in
       let less : suc left - 1 ≡ left = omega arith in
       let w = word_taken t i left (bytes_at bytes.now at) h (ten at given.inside) in
       (w.0, all_accepted rest (rw less at given.next) (word_answer t (word_call t (bytes_at bytes.now at) most_records)).tracker w.1)

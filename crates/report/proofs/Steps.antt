@@ -2,22 +2,26 @@
 -- Assumes nothing.
 use Prim.Native.Nat.{ℕ, ◌+◌, ◌-◌, ◌≤◌, ◌*◌}
 use mathlib.Core.Path.{◌≡◌, refl, sym, ap, subst, ◌∙◌}
+use Rattle.std.proofs.Common.{Option, Some}
 use mathlib.Core.Bool.{Bool, true, false}
 use mathlib.Core.List.{List}
 use native.Mathlib.Omega.{arith}
 use borrow.Author.Tests.{eqb-true}
 use borrow.Rule.Slice.PartMut.{mid_of}
 use lib.Dec.{eqb}
-use lib.ListN.{length}
+use lib.ListN.{length, take}
 use Rattle.words.specs.Lists.{over}
 use Rattle.records.specs.Records.{flat, room, most_records, record_width}
 use Rattle.records.proofs.Given.{length_flat}
 use Rattle.words.proofs.Buffer.{over_fits}
 use Rattle.cdp_running.specs.declared.Tracker.{Tracker}
-use Rattle.cdp_running.specs.declared.WordAnswer.{WordAnswer}
+use Rattle.std.specs.Prelude.{Result, Ok, Err}
+use Rattle.refusals.specs.declared.Refusal.{Refusal}
+use Rattle.cdp_running.specs.declared.Taken.{Taken}
+use Rattle.cdp_running.specs.Told.{WordAnswer, word_answered}
 use Rattle.cdp_running.specs.Tracker.{start_of}
 use Rattle.cdp_running.proofs.Good as Good
-use Rattle.cdp_running.specs.Answer.{numbers_of}
+use Rattle.cdp_running.specs.Answer.{numbers_of, records_told}
 use Rattle.cdp_running.specs.Word.{Outcome, taken, refused, word_call, word_answer, records_in, WordPost}
 use Rattle.bench_file.specs.declared.Found.TheVariants as F
 use Rattle.bench_file.specs.File.{check_of, bytes_at}
@@ -29,10 +33,10 @@ use Rattle.report.specs.declared.Stage.{Stage}
 use Rattle.report.specs.declared.Stage.TheVariants as S
 use Rattle.report.specs.declared.Report.{Report}
 use Rattle.ascii.specs.Steps.{Prints}
-use Rattle.report.specs.Text.{lines, records_at}
+use Rattle.report.specs.Text.{lines, all_records}
 use Rattle.report.specs.File.{settings}
 use Rattle.report.specs.Report.{first_stage, start_report, reading, item_step, stage_step, step_of, GoodReading, GoodWord, GoodReport}
-use Rattle.report.proofs.Lines.{records_written}
+use Rattle.report.proofs.Lines.{all_written}
 
 -- The start.
 not_refused : (n : ℕ) → reading (first_stage n) ≡ true → n ≡ 0
@@ -84,26 +88,32 @@ module _ (t : Tracker) (bytes : List ℕ) {zeros after : List ℕ} {a : WordAnsw
       let fits = over_fits (flat rs) zeros (sym (ap length stand) ∙ same) in
       omega (arith, told_is, length_flat rs)
 
-  pub told_stand : records_at (numbers_of a.told).records after ≡ records_in (word_call t bytes most_records)
-  told_stand = rw (told_is, stand) (records_written (records_in (word_call t bytes most_records)) _)
+  pub told_stand : all_records (take (record_width * (numbers_of a.told).records) after) ≡ records_in (word_call t bytes most_records)
+  told_stand = rw (told_is, stand) (all_written (records_in (word_call t bytes most_records)) _)
 
 -- A word: its lines are printed.
-pub word_printed : (file : List ℕ) (r : Report) (at : ℕ) {zeros after d d' : List ℕ} {a : WordAnswer} {given n on : ℕ}
+pub word_printed : (file : List ℕ) (r : Report) (at : ℕ) {zeros after d d' : List ℕ} {a : WordAnswer} {next : Tracker} {given n on : ℕ}
     → WordPost r.tracker (bytes_at file at) zeros a after
+    → next ≡ a.tracker
     → length zeros ≡ most_records * record_width
     → on ≡ past_word file r.word
     → given ≡ (numbers_of a.told).records
-    → Puts (lines (records_at given after)) d n d'
-    → Prints (item_step file r (F.Word at)) d
-    (record { stage = S.Items; tracker = a.tracker; packet = r.packet; word = on; left = r.left - 1; count = r.count + given }) n d'
-word_printed file r at {after = after} {given = given} w z o g p =
+    → Puts (lines (all_records (take (record_width * given) after))) d n d'
+    → Prints (item_step file r (Some (F.Word at))) d
+    (record { stage = S.Items; tracker = next; packet = r.packet; word = on; left = r.left - 1; count = r.count + given }) n d'
+word_printed file r at {after = after} {given = given} w q z o g p =
     let t = r.tracker in
     let bytes = bytes_at file at in
-    let stand : records_at given after ≡ records_in (word_call t bytes most_records) = rw g (told_stand t bytes w z) in
+    let stand : all_records (take (record_width * given) after) ≡ records_in (word_call t bytes most_records) = rw g (told_stand t bytes w z) in
     record {
-      next_is = rw (o, g, told_is t bytes w z, answered t bytes w z);
+      next_is = rw (q, o, g, told_is t bytes w z, answered t bytes w z);
       puts = rw stand at p;
     }
+
+-- How many records were told.
+pub as_told : (t : Tracker) (x : Result (Tracker × Taken) Refusal) {n : ℕ} → n ≡ records_told x → n ≡ (numbers_of (word_answered t x).told).records
+as_told t (Ok next) e = e
+as_told t (Err r) e = e
 
 -- The part of a file that a word stands in.
 pub as_word : {t : Tracker} (file : List ℕ) (at : ℕ) {zeros after : List ℕ} {a : WordAnswer}
@@ -115,8 +125,8 @@ as_word file at w =
 
 -- What the reader found, and what is to be counted on there.
 module _ {file : List ℕ} {r : Report} (g : GoodReading file r) where
-  pub good_word_at : {x : Found} {at : ℕ} → x ≡ next_found file r.packet r.word r.left
-      → x ≡ F.Word at → GoodWord file r at
+  pub good_word_at : {x : Option Found} {at : ℕ} → x ≡ next_found file r.packet r.word r.left
+      → x ≡ Some (F.Word at) → GoodWord file r at
   good_word_at {x} {at} p q =
       let s = sound file g.checked in
       let given = word_given s g.place (sym p ∙ q) in
@@ -127,7 +137,7 @@ module _ {file : List ℕ} {r : Report} (g : GoodReading file r) where
         count_low = omega arith;
       }
 
-pub found : (file : List ℕ) (r : Report) {d d' : List ℕ} {x y : Found} {next : Report} {n : ℕ}
+pub found : (file : List ℕ) (r : Report) {d d' : List ℕ} {x y : Option Found} {next : Report} {n : ℕ}
     → x ≡ next_found file r.packet r.word r.left → x ≡ y
     → Prints (item_step file r y) d next n d'
     → Prints (item_step file r (next_found file r.packet r.word r.left)) d next n d'

@@ -1,6 +1,6 @@
 -- 01, "Bench file": the records of a file, and all that `benchcheck` prints of it.
 -- Assumes nothing.
-use Rattle.std.specs.Prelude.{ℕ, ◌+◌, ◌≡◌, true, cond, List, [], ◌∷◌, ◌++◌, eqb, length}
+use Rattle.std.specs.Prelude.{ℕ, ◌+◌, ◌≡◌, true, cond, Some, List, [], ◌∷◌, ◌++◌, eqb, length}
 use Rattle.words.specs.Word.{word_of}
 use Rattle.packet.specs.declared.Rule.TheVariants as R
 use Rattle.packet.specs.declared.Settings.{Settings}
@@ -14,7 +14,7 @@ use Rattle.report.specs.Text.{heading, lines, records_line, refused_line}
 
 -- "running checks and frames on, period 198"
 abbrev pub settings : Settings
-settings = record { running = true; frames = true; periodic = true; period = 198; rule = R.One }
+settings = record { running = true; frames = true; period = Some 198; rule = R.One }
 
 -- A packet call or a word call, with room for all records that a word gives: the tracker after it, and its records.
 abbrev pub tracker_after : Tracker → Item → Tracker

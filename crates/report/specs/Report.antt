@@ -1,6 +1,7 @@
 -- A report of a file on the way: what each step prints.
 -- Assumes nothing.
-use Rattle.std.specs.Prelude.{ℕ, ◌+◌, ◌-◌, ◌*◌, ◌^◌, ◌≤◌, ◌≡◌, Bool, true, false, cond, List, [], eqb, length}
+use Rattle.std.specs.Prelude.{ℕ, ◌+◌, ◌-◌, ◌*◌, ◌^◌, ◌≤◌, ◌≡◌, Bool, true, false, cond, List, [], Option, Some, None, eqb, length}
+use Rattle.refusals.specs.Refusals.{number, of_number}
 use Rattle.words.specs.Word.{word_bytes}
 use Rattle.records.specs.Records.{most_records}
 use Rattle.cdp_running.specs.Tracker.{Good, start_of}
@@ -18,7 +19,7 @@ use Rattle.report.specs.File.{settings, tracker_after, records_after}
 
 -- The start: the whole file was checked, and nothing is printed yet.
 abbrev pub first_stage : ℕ → Stage
-first_stage refusal = cond (eqb refusal 0) S.Heading (S.Refused refusal)
+first_stage refusal = cond (eqb refusal 0) S.Heading (S.Refused (of_number refusal))
 
 unfoldable pub start_report : List ℕ → Report
 start_report file =
@@ -33,8 +34,8 @@ at_stage stage r =
     record { stage = stage; tracker = r.tracker; packet = r.packet; word = r.word; left = r.left; count = r.count }
 
 -- The reader goes on past a packet or a word. A packet prints nothing. A word prints the lines of its records. At the end stands the number of all records.
-abbrev pub item_step : List ℕ → Report → Found → Printed Report
-item_step file r (F.Packet p words) =
+abbrev pub item_step : List ℕ → Report → Option Found → Printed Report
+item_step file r (Some (F.Packet p words)) =
     record {
       next =
           record {
@@ -47,7 +48,7 @@ item_step file r (F.Packet p words) =
           };
       text = [];
     }
-item_step file r (F.Word at) =
+item_step file r (Some (F.Word at)) =
     let records = records_after r.tracker (word at (bytes_at file at)) in
     record {
       next =
@@ -61,12 +62,12 @@ item_step file r (F.Word at) =
           };
       text = lines records;
     }
-item_step file r F.End = record { next = at_stage S.Done r; text = records_line r.count }
+item_step file r None = record { next = at_stage S.Done r; text = records_line r.count }
 
 abbrev pub stage_step : List ℕ → Report → Stage → Printed Report
 stage_step file r S.Heading = record { next = at_stage S.Items r; text = heading }
 stage_step file r S.Items = item_step file r (next_found file r.packet r.word r.left)
-stage_step file r (S.Refused n) = record { next = at_stage S.Done r; text = refused_line n }
+stage_step file r (S.Refused refusal) = record { next = at_stage S.Done r; text = refused_line (number refusal) }
 stage_step file r S.Done = nothing r
 
 unfoldable pub step_of : List ℕ → Report → Printed Report
@@ -76,14 +77,24 @@ step_of file r = stage_step file r r.stage
 abbrev pub is_done : Stage → Bool
 is_done S.Heading = false
 is_done S.Items = false
-is_done (S.Refused n) = false
+is_done (S.Refused refusal) = false
 is_done S.Done = true
+
+-- At most so many steps are left.
+abbrev pub steps_at : ℕ → Stage → ℕ
+steps_at n S.Heading = n + 2
+steps_at n S.Items = n + 1
+steps_at n (S.Refused refusal) = 1
+steps_at n S.Done = 0
+
+unfoldable pub steps_left : List ℕ → Report → ℕ
+steps_left file r = steps_at (length (to_come file r)) r.stage
 
 -- Packets and words are still read.
 abbrev pub reading : Stage → Bool
 reading S.Heading = true
 reading S.Items = true
-reading (S.Refused n) = false
+reading (S.Refused refusal) = false
 reading S.Done = false
 
 -- The invariant of a report of a file, which the start and every step give: its tracker is a good one; and while packets and words are read, the file is

@@ -2,7 +2,7 @@
 -- refused one gives only `refused N`". Every line ends in LF. 02, ticket 7: "prints the number as the first column, and its fixed line becomes `packet pos code
 -- first second`".
 -- Assumes nothing.
-use Rattle.std.specs.Prelude.{ℕ, zero, suc, ◌+◌, ◌*◌, List, [], ◌∷◌, ◌++◌, get_or, drop}
+use Rattle.std.specs.Prelude.{ℕ, zero, suc, ◌+◌, ◌*◌, ◌/◌, List, [], ◌∷◌, ◌++◌, length, get_or, drop}
 use Rattle.records.specs.Records.{Record, record_width, most_records}
 use Rattle.ascii.specs.Text.{ascii, space, newline, numeral}
 
@@ -40,3 +40,7 @@ first_record d = record { position = get_or d 0 0; code = get_or d 1 0; first = 
 unfoldable pub records_at : ℕ → List ℕ → List Record
 records_at zero d = []
 records_at (suc n) d = first_record d ∷ records_at n (drop record_width d)
+
+-- All that there are.
+abbrev pub all_records : List ℕ → List Record
+all_records d = records_at (length d / record_width) d

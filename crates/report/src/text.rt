@@ -1,8 +1,8 @@
 // Lines of records, at the front of a lent buffer. Document 01, "Bench file".
-ghost use Rattle.std.specs.Prelude.{◌+◌, ◌*◌, ◌≤◌, ◌++◌, length};
+ghost use Rattle.std.specs.Prelude.{◌+◌, ◌*◌, ◌/◌, ◌≤◌, ◌++◌, length};
 ghost use Rattle.records.specs.Records.{record_width};
 ghost use Rattle.ascii.specs.Text.{space, numeral, most_number, Puts};
-ghost use Rattle.report.specs.Text.{line, most_line, records_at, lines};
+ghost use Rattle.report.specs.Text.{line, most_line, all_records, lines};
 
 // Three numbers at the front of a line.
 fn put_three(out: &mut [u8], x: u64, y: u64, z: u64) -> usize
@@ -27,26 +27,21 @@ fn put_line(out: &mut [u8], position: u64, code: u64, first: u64, second: u64, p
     b + ascii::put_number(&mut out[b..], second, ascii::NEWLINE)
 }
 
-// The first n records of a buffer, as lines.
-pub(crate) fn put_lines(out: &mut [u8], records: &[u64], n: usize) -> usize
-    requires most_line_in_bounds { n * most_line ≤ length out.old }
-    requires n_in_bounds { record_width * n ≤ length records.now }
-    ensures { Puts (lines (records_at n records.now)) out.old result out.new }
+// The records that stand in a buffer, as lines.
+pub(crate) fn put_lines(out: &mut [u8], records: &[u64]) -> usize
+    requires { length records.now / record_width * most_line ≤ length out.old }
+    ensures { Puts (lines (all_records records.now)) out.old result out.new }
 {
     let mut used: usize = 0;
-    let mut i: usize = 0;
-    while i < n {
-        let at = records::RECORD_WIDTH * i;
-        used = used
-            + put_line(
-                &mut out[used..],
-                records[at],
-                records[at + 1],
-                records[at + 2],
-                records[at + 3],
-                records[at + 4],
-            );
-        i = i + 1;
+    for record in records.chunks_exact(records::RECORD_WIDTH) {
+        used += put_line(
+            &mut out[used..],
+            record[0],
+            record[1],
+            record[2],
+            record[3],
+            record[4],
+        );
     }
     used
 }

@@ -1,46 +1,23 @@
 -- What reading the numbers of a line goes by.
 -- Assumes nothing.
-use Prim.Native.Nat.{ℕ, suc, ◌+◌, ◌-◌, ◌≤◌, ◌<◌}
-use mathlib.Core.Path.{◌≡◌, refl, sym, ap, ◌∙◌, subst}
-use mathlib.Core.Bool.{Bool, true, false, cond}
-use mathlib.Core.List.{List, [], ◌∷◌, ◌++◌}
-use native.Mathlib.Omega.{arith}
-use borrow.Author.Tests.{lt-ltb, le-ltb}
-use lib.ListN.{length, take, drop, get_or, set, replicate, length-append, drop_of_length-le}
-use lib.Seq.{drop-cons, set_at, append_snoc}
-use Rattle.script.specs.declared.line.Numbers.{Numbers}
-use Rattle.script.specs.declared.number.Value.{Value}
-use Rattle.script.specs.declared.number.Value.TheVariants.{Is, None}
+use Rattle.std.proofs.Common.{ℕ, suc, ◌+◌, ◌-◌, ◌<◌, ◌≡◌, refl, sym, ap, ◌∙◌, subst, Bool, true, false, cond, List, [], ◌∷◌, ◌++◌, length, set}
+use Rattle.std.proofs.Common.{replicate, length-append, Option, None, Some, ltb, arith}
+use borrow.Author.Tests.{lt-ltb, eq-eqb, ne_eqb}
+use lib.Seq.{set_at, append_snoc}
 use Rattle.script.specs.Numbers.{number_of}
-use Rattle.script.specs.Tokens.{is_blank, before, tokens, Begins, Ends}
-use Rattle.script.specs.Line.{most_numbers, Told, told, untold, with_value, numbers_of, filled, Tells}
+use Rattle.script.specs.Tokens.{tokens, FirstPart}
+use Rattle.script.specs.Line.{most_numbers, Told, told, untold, with_value, numbers_of, filled, numbers_if}
+use Rattle.script.proofs.Tokens.{parts_are}
 
--- The numbers from a place on.
-abbrev pub numbers_from : List ℕ → ℕ → Told
-numbers_from text from = numbers_of [] (tokens (drop from text))
-
-pub record Going (text : List ℕ) (from : ℕ) (n : List ℕ) (count at : ℕ) : Type 0 where
+-- The numbers so far, and the parts to come.
+pub record Going (text n rest : List ℕ) (i : ℕ) : Type 0 where
   pub so_far : List ℕ
-  pub long : length so_far ≡ count
-  pub few : count ≤ most_numbers
+  pub long : length so_far ≡ i
   pub n_is : n ≡ filled so_far
-  pub within : at ≤ length text
-  pub same : numbers_from text from ≡ numbers_of so_far (tokens (drop at text))
+  pub same : numbers_of [] (tokens text) ≡ numbers_of so_far (tokens rest)
 
-pub going : (text : List ℕ) (from : ℕ) → from ≤ length text → Going text from (replicate 10 0) 0 from
-going text from h = record { so_far = []; long = refl; few = omega arith; n_is = refl; within = h; same = refl }
-
--- A part that begins somewhere ends behind it.
-pub further : (text : List ℕ) (at b e : ℕ) → Begins text at b → (b ≡ length text → ⊥) → Ends text b e → b < e
-further text at b e begins more ends =
-    let within = begins.within in
-    let inside : b < length text = omega arith in
-    ends.moves inside (begins.solid inside)
-
--- The parts from a place on, where one begins and ends.
-pub parts_are : (text : List ℕ) (at b e : ℕ) → Begins text at b → (b ≡ length text → ⊥) → Ends text b e
-    → tokens (drop at text) ≡ take (e - b) (drop b text) ∷ tokens (drop e text)
-parts_are text at b e begins more ends = begins.same ∙ ends.word (further text at b e begins more ends)
+pub going : (text : List ℕ) → Going text (replicate 10 0) text 0
+going text = record { so_far = []; long = refl; n_is = refl; same = refl }
 
 one_filled : (ns : List ℕ) (n : List ℕ) (v : ℕ) → length ns < most_numbers → n ≡ filled ns → set n (length ns) v ≡ filled (ns ++ (v ∷ []))
 one_filled ns n v few is =
@@ -52,98 +29,83 @@ one_filled ns n v few is =
     ∙ ap (λ (m : ℕ). (ns ++ (v ∷ [])) ++ replicate m 0) k'
 
 -- The next part is read as a number, where one more has its place.
-next : (text : List ℕ) (from : ℕ) (n : List ℕ) (count at b e : ℕ) {v : Value} → Begins text at b → (b ≡ length text → ⊥) → count < most_numbers
-    → Ends text b e
-    → number_of (take (e - b) (drop b text)) ≡ v
-    → (g : Going text from n count at)
-    → numbers_from text from ≡ with_value v (λ m. numbers_of (g.so_far ++ (m ∷ [])) (tokens (drop e text)))
+next : {text n rest part after : List ℕ} {i : ℕ} {v : Option ℕ} → FirstPart rest part after → number_of part ≡ v → i < most_numbers
+    → (g : Going text n rest i)
+    → numbers_of [] (tokens text) ≡ with_value v (λ m. numbers_of (g.so_far ++ (m ∷ [])) (tokens after))
 unfolding numbers_of
-next text from n count at b e begins more few ends is g =
+next {part = part} {after} {i} {v} p is few g =
     let ns = g.so_far in
     let long = g.long in
-    let rest : ℕ → Told = λ m. numbers_of (ns ++ (m ∷ [])) (tokens (drop e text)) in
-    g.same ∙ ap (numbers_of ns) (parts_are text at b e begins more ends)
-    ∙ ap (λ (t : Bool). cond t (with_value (number_of (take (e - b) (drop b text))) rest) untold) (lt-ltb (length ns) most_numbers (omega arith))
-    ∙ ap (λ (x : Value). with_value x rest) is
+    let more : ℕ → Told = λ m. numbers_of (ns ++ (m ∷ [])) (tokens after) in
+    g.same ∙ ap (numbers_of ns) (parts_are p)
+    ∙ ap (λ (t : Bool). cond t (with_value (number_of part) more) untold) (lt-ltb (length ns) most_numbers (omega arith))
+    ∙ ap (λ (x : Option ℕ). with_value x more) is
 
-pub one_more : (text : List ℕ) (from : ℕ) (n : List ℕ) (count at b e v : ℕ) → Begins text at b → (b ≡ length text → ⊥) → count < most_numbers
-    → Ends text b e
-    → number_of (take (e - b) (drop b text)) ≡ Is v
-    → Going text from n count at
-    → Going text from (set n count v) (count + 1) e
-one_more text from n count at b e v begins more few ends is g =
+pub one_more : {text n rest part after : List ℕ} {i : ℕ} (v : ℕ) → FirstPart rest part after → number_of part ≡ Some v → i < most_numbers
+    → Going text n rest i
+    → Going text (set n i v) after (i + 1)
+one_more {n = n} {i = i} v p is few g =
     let ns = g.so_far in
     let long = g.long in
     record {
       so_far = ns ++ (v ∷ []);
       long = length-append ns (v ∷ []) ∙ omega arith;
-      few = omega arith;
       n_is = subst (λ (k : ℕ). set n k v ≡ filled (ns ++ (v ∷ []))) long (one_filled ns n v (omega arith) g.n_is);
-      within = ends.within;
-      same = next text from n count at b e begins more few ends is g;
+      same = next p is few g;
     }
 
--- What is told, once it is known.
-tell : (r : Numbers) {t : Told} (known : Told) → t ≡ known → Tells known r → Tells t r
-tell r known e = subst (λ (x : Told). Tells x r) (sym e)
+module _ {text n rest : List ℕ} {i : ℕ} (count : ℕ) (g : Going text n rest i) where
+  -- What is told, once it is known.
+  tell : {t : Told} → numbers_of [] (tokens text) ≡ t → numbers_if count t ≡ numbers_if count (numbers_of [] (tokens text))
+  tell e = ap (numbers_if count) (sym e)
 
-pub no_number : (text : List ℕ) (from : ℕ) (n : List ℕ) (count at b e : ℕ) → Begins text at b → (b ≡ length text → ⊥) → count < most_numbers
-    → Ends text b e
-    → number_of (take (e - b) (drop b text)) ≡ None
-    → Going text from n count at
-    → Tells (numbers_from text from) (record { count = count; bad = true; n = n })
-no_number text from n count at b e begins more few ends is g =
-    tell (record { count = count; bad = true; n = n }) untold (next text from n count at b e begins more few ends is g) refl
+  pub no_number : {part after : List ℕ} → FirstPart rest part after → number_of part ≡ None → i < most_numbers
+      → None ≡ numbers_if count (numbers_of [] (tokens text))
+  no_number p is few = tell (next p is few g)
 
--- Ten, and a part more.
-eleventh : (ns : List ℕ) (ts : List (List ℕ)) → most_numbers ≤ length ns → 0 < length ts → numbers_of ns ts ≡ untold
+  -- No part is left.
+  all_told : tokens rest ≡ [] → numbers_of [] (tokens text) ≡ told g.so_far
+  unfolding numbers_of
+  all_told none = g.same ∙ ap (numbers_of g.so_far) none
+
+  pub too_few : tokens rest ≡ [] → i < count → None ≡ numbers_if count (numbers_of [] (tokens text))
+  too_few none less =
+      let long = g.long in
+      sym (ap (λ (t : Bool). cond t (Some (filled g.so_far)) None) (ne_eqb (length g.so_far) count (λ e. omega (arith, e, less, long))))
+      ∙ tell (all_told none)
+
+  pub so_many : tokens rest ≡ [] → i ≡ count → Some n ≡ numbers_if count (numbers_of [] (tokens text))
+  so_many none all =
+      ap Some g.n_is
+      ∙ sym (ap (λ (t : Bool). cond t (Some (filled g.so_far)) None) (eq-eqb (length g.so_far) count (g.long ∙ all)))
+      ∙ tell (all_told none)
+
+-- Numbers are as many as the parts that they are.
+abbrev AsMany : ℕ → Told → Type 0
+AsMany k untold = Unit {0}
+AsMany k (told ns) = length ns ≡ k
+
+as_many : (ns : List ℕ) (ts : List (List ℕ)) → AsMany (length ns + length ts) (numbers_of ns ts)
 unfolding numbers_of
-eleventh ns [] h k = absurd (omega arith)
-eleventh ns (t ∷ ts) h k =
-    ap (λ (x : Bool). cond x (with_value (number_of t) (λ n. numbers_of (ns ++ (n ∷ [])) ts)) untold) (le-ltb (length ns) most_numbers h)
-
-some_part : (b : ℕ) (bs : List ℕ) (ts : List (List ℕ)) → 0 < length (before b bs ts)
-some_part b [] ts = omega arith
-some_part b (c ∷ cs) [] = omega arith
-some_part b (c ∷ cs) (t ∷ ts) = either (is_blank c)
+as_many ns [] = omega arith
+as_many ns (t ∷ ts) = by_test (ltb (length ns) most_numbers) (number_of t) (λ n. as_many (ns ++ (n ∷ [])) ts)
   where
-    either : (x : Bool) → 0 < length (cond x ((b ∷ []) ∷ t ∷ ts) ((b ∷ t) ∷ ts))
-    either true = omega arith
-    either false = omega arith
+    by_test : (b : Bool) (v : Option ℕ)
+        → ((n : ℕ) → AsMany (length (ns ++ (n ∷ [])) + length ts) (numbers_of (ns ++ (n ∷ [])) ts))
+        → AsMany (length ns + suc (length ts)) (cond b (with_value v (λ n. numbers_of (ns ++ (n ∷ [])) ts)) untold)
+    by_test true (Some n) rest =
+        subst (λ (k : ℕ). AsMany k (numbers_of (ns ++ (n ∷ [])) ts)) (omega (arith, length-append ns (n ∷ []))) (rest n)
+    by_test true None rest = tt
+    by_test false v rest = tt
 
-a_part : (text : List ℕ) (b : ℕ) → b < length text → is_blank (get_or text b 0) ≡ false → 0 < length (tokens (drop b text))
-unfolding tokens
-a_part text b h solid =
-    let rest = drop (suc b) text in
-    subst (λ (l : List ℕ). 0 < length (tokens l)) (sym (drop-cons text b 0 h))
-    (subst (λ (x : Bool). 0 < length (cond x (tokens rest) (before (get_or text b 0) rest (tokens rest)))) (sym solid)
-    (some_part (get_or text b 0) rest (tokens rest)))
-
-pub too_many : (text : List ℕ) (from : ℕ) (n : List ℕ) (count at b : ℕ) → Begins text at b → (b ≡ length text → ⊥) → most_numbers ≤ count
-    → Going text from n count at
-    → Tells (numbers_from text from) (record { count = count; bad = true; n = n })
-too_many text from n count at b begins more full g =
-    let within = begins.within in
-    let inside : b < length text = omega arith in
-    let long = g.long in
-    let part = a_part text b inside (begins.solid inside) in
-    tell (record { count = count; bad = true; n = n }) untold
-    (g.same ∙ ap (numbers_of g.so_far) begins.same ∙ eleventh g.so_far (tokens (drop b text)) (omega arith) part) refl
-
--- No part is left.
-all_told : (text : List ℕ) (from : ℕ) (n : List ℕ) (count at b : ℕ) → tokens (drop at text) ≡ tokens (drop b text) → length text ≤ b
-    → Going text from n count at
-    → Tells (numbers_from text from) (record { count = count; bad = false; n = n })
-unfolding numbers_of tokens
-all_told text from n count at b same end g =
-    tell (record { count = count; bad = false; n = n }) (told g.so_far)
-    (g.same ∙ ap (numbers_of g.so_far) (same ∙ ap tokens (drop_of_length-le text end)))
-    (refl, (sym g.long, g.n_is))
-
-pub none_left : (text : List ℕ) (from : ℕ) (n : List ℕ) (count at b : ℕ) → Begins text at b → b ≡ length text → Going text from n count at
-    → Tells (numbers_from text from) (record { count = count; bad = false; n = n })
-none_left text from n count at b begins end g = all_told text from n count at b begins.same (omega arith) g
-
-pub ended : (text : List ℕ) (from : ℕ) (n : List ℕ) (count at : ℕ) → length text ≤ at → Going text from n count at
-    → Tells (numbers_from text from) (record { count = count; bad = false; n = n })
-ended text from n count at end g = all_told text from n count at at refl end g
+pub too_many : {text n rest part after : List ℕ} {i : ℕ} (count : ℕ) → Going text n rest i → FirstPart rest part after → i ≡ count
+    → None ≡ numbers_if count (numbers_of [] (tokens text))
+too_many {rest = rest} {part} {after} count g p all =
+    sym (ap (numbers_if count) g.same ∙ more (numbers_of g.so_far (tokens rest)) (as_many g.so_far (tokens rest)))
+  where
+    more : (t : Told) → AsMany (length g.so_far + length (tokens rest)) t → numbers_if count t ≡ None
+    more untold h = refl
+    more (told ns) h =
+        let long = g.long in
+        let some = ap (λ (l : List (List ℕ)). length l) (parts_are p) in
+        ap (λ (t : Bool). cond t (Some (filled ns)) None) (ne_eqb (length ns) count (λ e. omega (arith, e, h, long, some, all)))

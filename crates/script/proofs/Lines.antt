@@ -15,10 +15,10 @@ use Rattle.writer.specs.Write.{written}
 use Rattle.writer.proofs.Bytes.{bytes_long}
 use Rattle.bench_writer.specs.declared.Draft.{Draft}
 use Rattle.bench_writer.specs.Content.{Entry}
-use Rattle.bench_writer.specs.Draft.{packet_from, word_refusal, Holds}
+use Rattle.packet.specs.Packet.{packet_from}
+use Rattle.bench_writer.specs.Draft.{word_refusal, Holds}
 use Rattle.bench_writer.proofs.Holding.{packet_holds, word_holds}
-use Rattle.script.specs.declared.line.Kind.{Kind}
-use Rattle.script.specs.declared.line.Kind.TheVariants.{Nothing, Unreadable, Packet, Word}
+use Rattle.script.specs.Line.{Kind, Nothing, Unreadable, Packet, Word}
 use Rattle.script.specs.Asked.{asked_of}
 use Rattle.script.specs.Taking.{packet_of, refusal_by, entries_by, draft_by, buffer_by}
 use Rattle.script.specs.Outcome.{in_first, lines_of, hash, uncommented}

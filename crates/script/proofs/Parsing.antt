@@ -1,100 +1,98 @@
 -- From parts and numbers to what a line says.
 -- Assumes nothing.
-use Prim.Native.Nat.{ℕ, suc, ◌+◌, ◌-◌, ◌≤◌, ◌<◌}
-use mathlib.Core.Path.{◌≡◌, refl, sym, ap, ap₂, ◌∙◌}
-use mathlib.Core.Bool.{Bool, true, false, cond, ◌&&◌, true≢false}
-use mathlib.Core.List.{List, [], ◌∷◌}
-use native.Mathlib.Numerals.{add-one}
-use native.Mathlib.Omega.{arith}
-use borrow.Author.Tests.{eq-eqb, ne_eqb}
-use lib.Dec.{eqb}
-use lib.ListN.{length, take, drop, get_or, drop_of_length-le}
-use lib.Seq.{drop-cons}
-use Rattle.script.specs.declared.line.Kind.{Kind}
-use Rattle.script.specs.declared.line.Kind.TheVariants.{Nothing, Unreadable}
-use Rattle.script.specs.declared.line.Line.{Line}
-use Rattle.script.specs.declared.line.Numbers.{Numbers}
-use Rattle.script.specs.Tokens.{tokens, Begins, Ends}
-use Rattle.script.specs.Line.{Told, told, untold, numbers_of, Tells, line_with, same_bytes, kind_of, arity_of, line_as, line_from, line_of}
-use Rattle.script.proofs.Counting.{parts_are}
+use Rattle.std.proofs.Common.{ℕ, ◌≡◌, refl, sym, ap, ◌∙◌, Bool, true, false, cond, List, [], length, eqb, Option, None, Some, Ok, Err}
+use Rattle.std.proofs.lemmas.Option.{none-some}
+use Rattle.refusals.specs.declared.Refusal.TheVariants as R
+use Rattle.writer.specs.declared.WordKind.TheVariants as W
+use Rattle.script.specs.declared.line.Kind.{Kind as GivenKind}
+use Rattle.script.specs.declared.line.Kind.TheVariants as K
+use Rattle.script.specs.Tokens.{tokens, FirstPart}
+use Rattle.script.specs.Line.{Kind, Nothing, Unreadable, Packet, Word, Told, told, untold, numbers_of, filled, line_with, kind_of, arity_of, line_as}
+use Rattle.script.specs.Line.{line_from, line_of, numbers_if, of_kind, kind_if, line_by, line_if}
+use Rattle.script.proofs.Tokens.{parts_are}
 
--- Two texts, byte by byte.
-pub record Comparing (a b : List ℕ) (i : ℕ) : Type 0 where
-  pub within : i ≤ length a
-  pub same : same_bytes a b ≡ same_bytes (drop i a) (drop i b)
+-- A kind is known by what is answered of it.
+if_kind : Option GivenKind → Kind
+if_kind None = Unreadable
+if_kind (Some k) = of_kind k
 
-pub other_length : (a b : List ℕ) → (length a ≡ length b → ⊥) → false ≡ same_bytes a b
-unfolding same_bytes
-other_length [] [] h = absurd (h refl)
-other_length [] (y ∷ b) h = refl
-other_length (x ∷ a) [] h = refl
-other_length (x ∷ a) (y ∷ b) h = both (eqb x y) (same_bytes a b) (other_length a b (λ e. h (ap suc e)))
-  where
-    both : (p q : Bool) → false ≡ q → false ≡ (p && q)
-    both true q e = e
-    both false q e = refl
+kind_known : (kind : Kind) (k : GivenKind) → kind_if kind ≡ Some k → kind ≡ of_kind k
+unfolding if_kind
+kind_known Nothing k e = absurd (none-some k e)
+kind_known Unreadable k e = absurd (none-some k e)
+kind_known Packet k e = ap if_kind e
+kind_known (Word w) k e = ap if_kind e
 
-pub comparing : (a b : List ℕ) → Comparing a b 0
-comparing a b = record { within = omega arith; same = refl }
+-- A name that is none of a kind's makes a line that can't be read: no name makes one that is empty.
+abbrev IsName : Kind → Type 0
+IsName kind = kind_if kind ≡ None → kind ≡ Unreadable
 
-at_place : (a b : List ℕ) (i : ℕ) → i < length a → length a ≡ length b
-    → same_bytes (drop i a) (drop i b) ≡ same_bytes (get_or a i 0 ∷ drop (suc i) a) (get_or b i 0 ∷ drop (suc i) b)
-at_place a b i h e = ap₂ same_bytes (drop-cons a i 0 h) (drop-cons b i 0 (omega arith))
+either : (k : GivenKind) (t : Bool) {other : Kind} → IsName other → IsName (cond t (of_kind k) other)
+either K.Packet true is e = absurd (none-some K.Packet (sym e))
+either (K.Word w) true is e = absurd (none-some (K.Word w) (sym e))
+either k false is e = is e
 
-pub byte_same : (a b : List ℕ) (i : ℕ) → i < length a → length a ≡ length b → get_or a i 0 ≡ get_or b i 0 → Comparing a b i → Comparing a b (i + 1)
-unfolding same_bytes
-byte_same a b i h e is g =
-    record {
-      within = omega arith;
-      same =
-          g.same ∙ at_place a b i h e
-          ∙ ap (λ (x : Bool). x && same_bytes (drop (suc i) a) (drop (suc i) b)) (eq-eqb (get_or a i 0) (get_or b i 0) is)
-          ∙ ap (λ (k : ℕ). same_bytes (drop k a) (drop k b)) (sym (add-one i));
-    }
+name_known : (name : List ℕ) → IsName (kind_of name)
+name_known name =
+    either K.Packet _
+    (either (K.Word W.Ihw) _
+    (either (K.Word W.Tdh) _
+    (either (K.Word W.Tdt) _
+    (either (K.Word W.Ddw0) _ (either (K.Word W.Cdw) _ (either (K.Word W.Data) _ {other = Unreadable} (λ e. refl)))))))
 
-pub byte_other : (a b : List ℕ) (i : ℕ) → i < length a → length a ≡ length b → (get_or a i 0 ≡ get_or b i 0 → ⊥) → Comparing a b i → false ≡ same_bytes a b
-unfolding same_bytes
-byte_other a b i h e is g =
-    sym (g.same ∙ at_place a b i h e ∙ ap (λ (x : Bool). x && same_bytes (drop (suc i) a) (drop (suc i) b)) (ne_eqb (get_or a i 0) (get_or b i 0) is))
+pub is_empty : (text : List ℕ) → tokens text ≡ [] → Ok None ≡ line_if (line_of text)
+unfolding line_from
+is_empty text none = ap (λ (ts : List (List ℕ)). line_if (line_from ts)) (sym none)
 
-pub all_same : (a b : List ℕ) (i : ℕ) → length a ≤ i → length a ≡ length b → Comparing a b i → true ≡ same_bytes a b
-unfolding same_bytes
-all_same a b i h e g = sym (g.same ∙ ap₂ same_bytes (drop_of_length-le a h) (drop_of_length-le b {i = i} (omega arith)))
-
--- What a line says: nothing, where no part begins.
-pub says_nothing : (text : List ℕ) (b : ℕ) → Begins text 0 b → b ≡ length text → line_with Nothing [] ≡ line_of text
-unfolding tokens line_from
-says_nothing text b begins end = sym (ap line_from (begins.same ∙ ap tokens (drop_of_length-le text {i = b} (omega arith))))
-
--- Else what its first part and its numbers say.
-module _ (text : List ℕ) (b e : ℕ) (k : Kind) (nums : Numbers) (begins : Begins text 0 b) (more : b ≡ length text → ⊥)
-    (ends : Ends text b e)
-    (kind : k ≡ kind_of (take (e - b) (drop b text)))
-    (tells : Tells (numbers_of [] (tokens (drop e text))) nums) where
-  said : line_of text ≡ line_as k (numbers_of [] (tokens (drop e text)))
+-- What a line's first part and its numbers say.
+module _ {text name rest : List ℕ} (p : FirstPart text name rest) where
+  said : line_of text ≡ line_as (kind_of name) (numbers_of [] (tokens rest))
   unfolding line_from
-  said = ap line_from (parts_are text 0 b e begins more ends) ∙ ap (λ (n : Kind). line_as n (numbers_of [] (tokens (drop e text)))) (sym kind)
+  said = ap line_from (parts_are p)
 
-  pub bad_number : nums.bad ≡ true → line_with Unreadable [] ≡ line_of text
-  bad_number bad = sym (said ∙ by_case (numbers_of [] (tokens (drop e text))) tells)
+  pub no_kind : kind_if (kind_of name) ≡ None → Err R.Line ≡ line_if (line_of text)
+  no_kind none =
+      sym
+      (ap line_if (said ∙ ap (λ (k : Kind). line_as k (numbers_of [] (tokens rest))) (name_known name none))
+      ∙ by_count (numbers_of [] (tokens rest)))
     where
-      by_case : (t : Told) → Tells t nums → line_as k t ≡ line_with Unreadable []
-      by_case untold h = refl
-      by_case (told ns) h = absurd (true≢false (sym bad ∙ h.0))
+      by_count : (t : Told) → line_if (line_as Unreadable t) ≡ Err R.Line
+      by_count untold = refl
+      by_count (told ns) = by_test (eqb (length ns) 0)
+        where
+          by_test : (b : Bool) → line_if (cond b (line_with Unreadable ns) (line_with Unreadable [])) ≡ Err R.Line
+          by_test true = refl
+          by_test false = refl
 
-  pub other_count : (nums.count ≡ arity_of k → ⊥) → line_with Unreadable [] ≡ line_of text
-  other_count off = sym (said ∙ by_case (numbers_of [] (tokens (drop e text))) tells)
-    where
-      by_case : (t : Told) → Tells t nums → line_as k t ≡ line_with Unreadable []
-      by_case untold h = refl
-      by_case (told ns) h =
-          ap (λ (x : Bool). cond x (line_with k ns) (line_with Unreadable [])) (ne_eqb (length ns) (arity_of k) (λ same. off (h.1.0 ∙ same)))
+  module _ (k : GivenKind) (kind : kind_if (kind_of name) ≡ Some k) where
+    is_said : line_if (line_of text) ≡ line_if (line_as (of_kind k) (numbers_of [] (tokens rest)))
+    is_said = ap line_if (said ∙ ap (λ (x : Kind). line_as x (numbers_of [] (tokens rest))) (kind_known (kind_of name) k kind))
 
-  pub says_it : nums.bad ≡ false → nums.count ≡ arity_of k → record { kind = k; n = nums.n } ≡ line_of text
-  says_it good is = sym (said ∙ by_case (numbers_of [] (tokens (drop e text))) tells)
-    where
-      by_case : (t : Told) → Tells t nums → line_as k t ≡ record { kind = k; n = nums.n }
-      by_case untold h = absurd (true≢false (sym h ∙ good))
-      by_case (told ns) h =
-          ap (λ (x : Bool). cond x (line_with k ns) (line_with Unreadable [])) (eq-eqb (length ns) (arity_of k) (sym h.1.0 ∙ is))
-          ∙ ap {B = Line} (λ (l : List ℕ). record { kind = k; n = l }) (sym h.1.1)
+    pub no_numbers : numbers_if (arity_of (of_kind k)) (numbers_of [] (tokens rest)) ≡ None → Err R.Line ≡ line_if (line_of text)
+    no_numbers none = sym (is_said ∙ by_told (numbers_of [] (tokens rest)) none)
+      where
+        by_told : (t : Told) → numbers_if (arity_of (of_kind k)) t ≡ None → line_if (line_as (of_kind k) t) ≡ Err R.Line
+        by_told untold e = refl
+        by_told (told ns) e = by_test (eqb (length ns) (arity_of (of_kind k))) e
+          where
+            by_test : (b : Bool) → cond b (Some (filled ns)) None ≡ None
+                → line_if (cond b (line_with (of_kind k) ns) (line_with Unreadable [])) ≡ Err R.Line
+            by_test true e = absurd (none-some (filled ns) (sym e))
+            by_test false e = refl
+
+    pub says_it : (n : List ℕ) → numbers_if (arity_of (of_kind k)) (numbers_of [] (tokens rest)) ≡ Some n
+        → Ok (Some (record { kind = k; n = n })) ≡ line_if (line_of text)
+    says_it n some = sym (is_said ∙ by_told (numbers_of [] (tokens rest)) some)
+      where
+        as_kind : (x : GivenKind) (ns : List ℕ) → line_by (of_kind x) ns ≡ Ok (Some (record { kind = x; n = ns }))
+        as_kind K.Packet ns = refl
+        as_kind (K.Word w) ns = refl
+
+        by_told : (t : Told) → numbers_if (arity_of (of_kind k)) t ≡ Some n → line_if (line_as (of_kind k) t) ≡ Ok (Some (record { kind = k; n = n }))
+        by_told untold e = absurd (none-some n e)
+        by_told (told ns) e = by_test (eqb (length ns) (arity_of (of_kind k))) e
+          where
+            by_test : (b : Bool) → cond b (Some (filled ns)) None ≡ Some n
+                → line_if (cond b (line_with (of_kind k) ns) (line_with Unreadable [])) ≡ Ok (Some (record { kind = k; n = n }))
+            by_test true e = let same : filled ns ≡ n = cc in ap (line_by (of_kind k)) same ∙ as_kind k n
+            by_test false e = absurd (none-some n e)

@@ -1,68 +1,67 @@
 -- The parts of a line: blanks before a part count for nothing, and a part of no blanks that ends before one, or at the end, is the first.
 -- Assumes nothing.
-use Prim.Native.Nat.{ℕ, suc, ◌+◌, ◌-◌, ◌≤◌, ◌<◌}
-use mathlib.Core.Path.{◌≡◌, refl, sym, ap, ◌∙◌, subst}
-use mathlib.Core.Bool.{Bool, true, false, cond, not, true≢false, beq}
+use Rattle.std.proofs.Common.{ℕ, suc, ◌+◌, ◌-◌, ◌≤◌, ◌<◌, ◌≡◌, refl, sym, ap, ap₂, ◌∙◌, subst, Bool, true, false, cond, not, true≢false, List, [], ◌∷◌}
+use Rattle.std.proofs.Common.{◌++◌, length, take, drop, get_or, length-take, length-drop, take-append-drop, drop_of_length-le, drop-cons, take_all}
+use Rattle.std.proofs.Common.{None, Some, position, arith}
+use Rattle.std.specs.List.{prefix_len, position_or_len}
+use Rattle.std.proofs.lemmas.Option.{none-some}
 use mathlib.Core.Logic.{⊎_elim}
-use mathlib.Core.List.{List, [], ◌∷◌, ◌++◌}
 use native.Mathlib.Nat.{eq-or-lt_of_le}
-use native.Mathlib.Omega.{arith}
-use lib.ListN.{length, take, drop, get_or, length-take, length-drop, take-append-drop, drop_of_length-le}
-use lib.Seq.{drop-cons, take-suc, get_or-drop, drop-drop}
+use borrow.Author.Tests.{ltb-true, ltb-false}
+use lib.Dec.{ltb}
+use lib.Seq.{get_or-drop, drop-drop}
 use Rattle.words.specs.Lists.{Each}
-use Rattle.script.specs.Tokens.{is_blank, before, tokens, Skips, Begins, Ends}
+use Rattle.script.specs.Tokens.{is_blank, before, tokens, Skips, Begins, Ends, FirstPart}
 
 -- All of these bytes are blanks, or none is.
 abbrev All : Bool → List ℕ → Type 0
 All blanks = Each (λ b. is_blank b ≡ blanks)
 
-all_more : {blanks : Bool} (w : List ℕ) (b : ℕ) → All blanks w → is_blank b ≡ blanks → All blanks (w ++ (b ∷ []))
-all_more [] b all h = (h, tt)
-all_more (c ∷ w) b all h = (all.0, all_more w b all.1 h)
+add-one-first : (n : ℕ) → suc n ≡ 1 + n
+add-one-first n = omega arith
 
--- What `skip` goes by.
-pub record Skipping (blanks : Bool) (text : List ℕ) (from i : ℕ) : Type 0 where
-  pub after : from ≤ i
-  pub within : i ≤ length text
-  pub run : All blanks (take (i - from) (drop from text))
+-- The bytes in front that pass a test: what passes is a blank, or is none, and what doesn't is the other.
+module _ (blanks : Bool) (p : ℕ → Bool) (yes : (b : ℕ) → p b ≡ true → is_blank b ≡ blanks) (no : (b : ℕ) → p b ≡ false → is_blank b ≡ not blanks) where
+  few : (xs : List ℕ) → prefix_len p xs ≤ length xs
+  few [] = omega arith
+  few (x ∷ xs) = by_test (p x) (few xs)
+    where
+      by_test : (t : Bool) → prefix_len p xs ≤ length xs → cond t (1 + prefix_len p xs) 0 ≤ suc (length xs)
+      by_test true h = omega (arith, h)
+      by_test false h = omega arith
 
-pub skip_begins : (blanks : Bool) (text : List ℕ) (from : ℕ) → from ≤ length text → Skipping blanks text from from
-skip_begins blanks text from h =
-    let z : from - from ≡ 0 = omega arith in
-    record { after = omega arith; within = h; run = subst (λ (k : ℕ). All blanks (take k (drop from text))) (sym z) tt }
+  all_so : (xs : List ℕ) → All blanks (take (prefix_len p xs) xs)
+  all_so [] = tt
+  all_so (x ∷ xs) = by_test (p x) refl (all_so xs)
+    where
+      by_test : (t : Bool) → p x ≡ t → All blanks (take (prefix_len p xs) xs) → All blanks (take (cond t (1 + prefix_len p xs) 0) (x ∷ xs))
+      by_test true e h = subst (λ (k : ℕ). All blanks (take k (x ∷ xs))) (add-one-first (prefix_len p xs)) (yes x e, h)
+      by_test false e h = tt
 
-pub skip_on : (blanks : Bool) (text : List ℕ) (from i : ℕ) → i < length text → is_blank (get_or text i 0) ≡ blanks → Skipping blanks text from i
-    → Skipping blanks text from (i + 1)
-skip_on blanks text from i h is s =
-    let from-i = s.after in
-    let k : i + 1 - from ≡ suc (i - from) = omega arith in
-    let e : from + (i - from) ≡ i = omega arith in
-    let here : get_or (drop from text) (i - from) 0 ≡ get_or text i 0 = get_or-drop from text (i - from) 0 ∙ ap (λ (n : ℕ). get_or text n 0) e in
-    let inside : i - from < length (drop from text) = omega (arith, length-drop from text) in
-    let more = all_more (take (i - from) (drop from text)) (get_or (drop from text) (i - from) 0) s.run (ap is_blank here ∙ is) in
-    record {
-      after = omega arith;
-      within = omega arith;
-      run = subst (All blanks) (sym (take-suc (drop from text) (i - from) 0 inside) ∙ ap (λ (n : ℕ). take n (drop from text)) (sym k)) more;
-    }
+  stop_at : (xs : List ℕ) → prefix_len p xs < length xs → is_blank (get_or xs (prefix_len p xs) 0) ≡ not blanks
+  stop_at [] h = absurd (omega arith)
+  stop_at (x ∷ xs) h = by_test (p x) refl (stop_at xs) h
+    where
+      by_test : (t : Bool) → p x ≡ t → (prefix_len p xs < length xs → is_blank (get_or xs (prefix_len p xs) 0) ≡ not blanks)
+          → cond t (1 + prefix_len p xs) 0 < suc (length xs)
+          → is_blank (get_or (x ∷ xs) (cond t (1 + prefix_len p xs) 0) 0) ≡ not blanks
+      by_test true e rest h =
+          subst (λ (k : ℕ). is_blank (get_or (x ∷ xs) k 0) ≡ not blanks) (add-one-first (prefix_len p xs)) (rest (omega (arith, h)))
+      by_test false e rest h = no x e
 
-pub skip_ends : (blanks : Bool) (text : List ℕ) (from i : ℕ) → (i < length text → is_blank (get_or text i 0) ≡ not blanks)
-    → Skipping blanks text from i
-    → Skips blanks text from i
-skip_ends blanks text from i stop s = record { after = s.after; within = s.within; run = s.run; stop = stop }
-
--- Two truths that differ, and two that do not.
-pub opposite : (a b : Bool) → not (beq a b) ≡ true → a ≡ not b
-opposite true true h = absurd (true≢false (sym h))
-opposite true false h = refl
-opposite false true h = refl
-opposite false false h = absurd (true≢false (sym h))
-
-pub alike : (a b : Bool) → not (beq a b) ≡ false → a ≡ b
-alike true true h = refl
-alike true false h = absurd (true≢false h)
-alike false true h = absurd (true≢false h)
-alike false false h = refl
+  skips : (text : List ℕ) (from : ℕ) → from ≤ length text → Skips blanks text from (from + prefix_len p (drop from text))
+  skips text from h =
+      let n = prefix_len p (drop from text) in
+      let e : from + n - from ≡ n = omega arith in
+      let long = length-drop from text in
+      let short = few (drop from text) in
+      record {
+        after = omega arith;
+        within = omega (arith, short, long, h);
+        run = subst (λ (k : ℕ). All blanks (take k (drop from text))) (sym e) (all_so (drop from text));
+        stop = λ inside.
+            ap is_blank (sym (get_or-drop from text n 0)) ∙ stop_at (drop from text) (omega (arith, inside, long, h));
+      }
 
 -- What was skipped, and what follows.
 split : (text : List ℕ) (from r : ℕ) → from ≤ r → drop from text ≡ take (r - from) (drop from text) ++ drop r text
@@ -135,3 +134,105 @@ ends text from r s =
           s.run
           (stops text r s.within s.stop);
     }
+
+-- A test that is turned round, twice.
+once : (b : ℕ) → not (is_blank b) ≡ true → is_blank b ≡ false
+once b = turned (is_blank b)
+  where
+    turned : (t : Bool) → not t ≡ true → t ≡ false
+    turned true e = absurd (true≢false (sym e))
+    turned false e = refl
+
+other : (b : ℕ) → not (is_blank b) ≡ false → is_blank b ≡ true
+other b = turned (is_blank b)
+  where
+    turned : (t : Bool) → not t ≡ false → t ≡ true
+    turned true e = refl
+    turned false e = absurd (true≢false e)
+
+twice : (b : ℕ) → not (not (is_blank b)) ≡ true → is_blank b ≡ true
+twice b = turned (is_blank b)
+  where
+    turned : (t : Bool) → not (not t) ≡ true → t ≡ true
+    turned true e = refl
+    turned false e = e
+
+neither : (b : ℕ) → not (not (is_blank b)) ≡ false → is_blank b ≡ false
+neither b = turned (is_blank b)
+  where
+    turned : (t : Bool) → not (not t) ≡ false → t ≡ false
+    turned true e = e
+    turned false e = refl
+
+abbrev solid : ℕ → Bool
+solid b = not (is_blank b)
+
+-- Where the first part begins; and that there is none.
+begins_at : (text : List ℕ) → Begins text 0 (position_or_len solid text)
+begins_at text =
+    let e : 0 + position_or_len solid text ≡ position_or_len solid text = omega arith in
+    begins text 0 (position_or_len solid text)
+    (subst (Skips true text 0) e (skips true (λ b. not (solid b)) twice neither text 0 (omega arith)))
+
+placed : (text : List ℕ) {i : ℕ} → position solid text ≡ Some i → (position_or_len solid text ≡ i) × (position_or_len solid text < length text)
+placed text {i} = by_test (ltb (position_or_len solid text) (length text)) refl
+  where
+    by_test : (t : Bool) → ltb (position_or_len solid text) (length text) ≡ t → cond t (Some (position_or_len solid text)) None ≡ Some i
+        → (position_or_len solid text ≡ i) × (position_or_len solid text < length text)
+    by_test true e is = (cc, ltb-true (position_or_len solid text) (length text) e)
+    by_test false e is = absurd (none-some i is)
+
+pub no_part : (text : List ℕ) → position solid text ≡ None → tokens text ≡ []
+unfolding tokens
+no_part text = by_test (ltb (position_or_len solid text) (length text)) refl
+  where
+    by_test : (t : Bool) → ltb (position_or_len solid text) (length text) ≡ t → cond t (Some (position_or_len solid text)) None ≡ None → tokens text ≡ []
+    by_test true e is = absurd (none-some (position_or_len solid text) (sym is))
+    by_test false e is =
+        (begins_at text).same
+        ∙ ap tokens (drop_of_length-le text {i = position_or_len solid text} (ltb-false (position_or_len solid text) (length text) e))
+
+a_part_from : (text part rest : List ℕ) {begin end : ℕ} → position solid text ≡ Some begin → end ≡ position_or_len is_blank (drop begin text)
+    → part ≡ take end (drop begin text)
+    → rest ≡ drop end (drop begin text)
+    → FirstPart text part rest
+a_part_from text part rest {begin} {end} is to part-is rest-is =
+    let at = placed text is in
+    let same = at.0 in
+    let inside : begin < length text = omega (arith, at.1, same) in
+    let e : begin + end - begin ≡ end = omega arith in
+    record {
+      begin = begin;
+      end = begin + end;
+      begins = subst (Begins text 0) same (begins_at text);
+      inside = inside;
+      ends =
+          subst (λ (n : ℕ). Ends text begin (begin + n)) (sym to)
+          (ends text begin (begin + position_or_len is_blank (drop begin text)) (skips false solid once other text begin (omega (arith, inside))));
+      part_is = part-is ∙ ap (λ (n : ℕ). take n (drop begin text)) (sym e);
+      rest_is = rest-is ∙ drop-drop end begin text;
+    }
+
+pub end_inside : (text : List ℕ) → position_or_len is_blank text ≤ length text
+end_inside text = few false solid once other text
+
+-- The text from a place on, as a slice to its end.
+abbrev from_on : List ℕ → ℕ → List ℕ
+from_on text begin = take (length text - begin) (drop begin text)
+
+pub a_part : (text part rest : List ℕ) {begin end : ℕ} → position solid text ≡ Some begin → end ≡ position_or_len is_blank (from_on text begin)
+    → part ≡ take end (from_on text begin)
+    → rest ≡ drop end (from_on text begin)
+    → FirstPart text part rest
+a_part text part rest {begin} {end} is =
+    let e : from_on text begin ≡ drop begin text = take_all (length text - begin) (drop begin text) (omega (arith, length-drop begin text)) in
+    subst
+    (λ (l : List ℕ). end ≡ position_or_len is_blank l → part ≡ take end l → rest ≡ drop end l → FirstPart text part rest)
+    (sym e)
+    (a_part_from text part rest is)
+
+-- It is the first of the parts, and the others follow.
+pub parts_are : {text part rest : List ℕ} → FirstPart text part rest → tokens text ≡ part ∷ tokens rest
+parts_are {text} {part} {rest} p =
+    p.begins.same ∙ p.ends.word (p.ends.moves p.inside (p.begins.solid p.inside))
+    ∙ ap₂ (λ (x y : List ℕ). x ∷ tokens y) (sym p.part_is) (sym p.rest_is)

@@ -1,9 +1,7 @@
 -- The word of a line, by its kind.
 -- Assumes nothing.
-use Prim.Native.Nat.{ℕ, ◌≤◌}
-use mathlib.Core.Path.{◌≡◌, sym, ap, subst}
-use mathlib.Core.Bool.{Bool, true, false, ◌&&◌}
-use mathlib.Core.List.{List}
+use Rattle.std.proofs.Common.{ℕ, zero, suc, ◌≤◌, ◌<◌, ◌≡◌, sym, ap, subst, Bool, true, false, ◌&&◌, List, [], ◌∷◌, take, get_or, arith}
+use Rattle.std.specs.List.{list_all}
 use borrow.Author.Tests.{leb-true}
 use Rattle.words.proofs.Tests.{both}
 use Rattle.data_ids.specs.DataIds.{is_data_id}
@@ -43,24 +41,34 @@ pub record Nine (n : List ℕ) : Type 0 where
   pub b8 : nth n 8 ≤ 255
   pub b9 : nth n 9 ≤ 255
 
+each_byte : (xs : List ℕ) (k i : ℕ) → list_all is_byte (take k xs) ≡ true → i < k → get_or xs i 0 ≤ 255
+each_byte [] k i e h = omega arith
+each_byte (x ∷ xs) zero i e h = absurd (omega (arith, h))
+each_byte (x ∷ xs) (suc k) zero e h = leb-true x 255 (both (is_byte x) (list_all is_byte (take k xs)) e).0
+each_byte (x ∷ xs) (suc k) (suc i) e h = each_byte xs k i (both (is_byte x) (list_all is_byte (take k xs)) e).1 (omega (arith, h))
+
 pub nine : (n : List ℕ) → are_bytes n ≡ true → Nine n
-nine n e =
-    let (h1, r1) = both (is_byte (nth n 1)) _ e in
-    let (h2, r2) = both (is_byte (nth n 2)) _ r1 in
-    let (h3, r3) = both (is_byte (nth n 3)) _ r2 in
-    let (h4, r4) = both (is_byte (nth n 4)) _ r3 in
-    let (h5, r5) = both (is_byte (nth n 5)) _ r4 in
-    let (h6, r6) = both (is_byte (nth n 6)) _ r5 in
-    let (h7, r7) = both (is_byte (nth n 7)) _ r6 in
-    let (h8, h9) = both (is_byte (nth n 8)) _ r7 in
+nine [] e =
     record {
-      b1 = leb-true _ _ h1;
-      b2 = leb-true _ _ h2;
-      b3 = leb-true _ _ h3;
-      b4 = leb-true _ _ h4;
-      b5 = leb-true _ _ h5;
-      b6 = leb-true _ _ h6;
-      b7 = leb-true _ _ h7;
-      b8 = leb-true _ _ h8;
-      b9 = leb-true _ _ h9;
+      b1 = omega arith;
+      b2 = omega arith;
+      b3 = omega arith;
+      b4 = omega arith;
+      b5 = omega arith;
+      b6 = omega arith;
+      b7 = omega arith;
+      b8 = omega arith;
+      b9 = omega arith;
+    }
+nine (x ∷ n) e =
+    record {
+      b1 = each_byte n 9 0 e (omega arith);
+      b2 = each_byte n 9 1 e (omega arith);
+      b3 = each_byte n 9 2 e (omega arith);
+      b4 = each_byte n 9 3 e (omega arith);
+      b5 = each_byte n 9 4 e (omega arith);
+      b6 = each_byte n 9 5 e (omega arith);
+      b7 = each_byte n 9 6 e (omega arith);
+      b8 = each_byte n 9 7 e (omega arith);
+      b9 = each_byte n 9 8 e (omega arith);
     }

@@ -1,6 +1,7 @@
 -- Issue 25, the word that a line asks for, with its numbers in the order of its fields.
 -- Assumes nothing.
-use Rattle.std.specs.Prelude.{ℕ, Bool, ◌&&◌, List, [], ◌∷◌, leb, get_or}
+use Rattle.std.specs.Prelude.{ℕ, Bool, ◌&&◌, List, [], ◌∷◌, leb, take, drop, get_or}
+use Rattle.std.specs.List.{list_all}
 use Rattle.data_ids.specs.DataIds.{is_data_id}
 use Rattle.writer.specs.declared.WordKind.{WordKind}
 use Rattle.writer.specs.declared.WordKind.TheVariants as W
@@ -25,12 +26,7 @@ is_byte b = leb b 255
 
 -- The nine numbers behind the id.
 abbrev pub are_bytes : List ℕ → Bool
-are_bytes n =
-    is_byte (nth n 1)
-    && (is_byte (nth n 2)
-    && (is_byte (nth n 3)
-    && (is_byte (nth n 4)
-    && (is_byte (nth n 5) && (is_byte (nth n 6) && (is_byte (nth n 7) && (is_byte (nth n 8) && is_byte (nth n 9))))))))
+are_bytes n = list_all is_byte (take 9 (drop 1 n))
 
 abbrev pub asked_of : WordKind → List ℕ → Asked
 -- "ihw LANES"

@@ -4,9 +4,7 @@ use Rattle.std.specs.Prelude.{ℕ, suc, ◌≡◌, cond, List, [], ◌∷◌, �
 use Rattle.ascii.specs.Text.{ascii, space, newline, numeral}
 use Rattle.bench_writer.specs.Content.{Entry, file_of}
 use Rattle.bench_writer.specs.Draft.{draft_of}
-use Rattle.script.specs.declared.line.Kind.TheVariants.{Unreadable}
-use Rattle.script.specs.declared.line.Line.{Line}
-use Rattle.script.specs.Line.{line_with, line_of}
+use Rattle.script.specs.Line.{Unreadable, Line, line_with, line_of}
 use Rattle.script.specs.Taking.{refusal_by, entries_by}
 
 -- A byte before the lines of what follows it.

@@ -1,15 +1,14 @@
 -- Issue 25, what a line does to the file that is being made: what it adds, and when it is refused.
 -- Assumes nothing.
-use Rattle.std.specs.Prelude.{ℕ, cond, List, [], ◌∷◌}
+use Rattle.std.specs.Prelude.{ℕ, cond, List, [], ◌∷◌, Result}
+use Rattle.refusals.specs.declared.Refusal.{Refusal}
 use Rattle.writer.specs.Write.{refused_field}
 use Rattle.bench_writer.specs.declared.Draft.{Draft}
-use Rattle.bench_writer.specs.declared.Added.{Added}
-use Rattle.bench_writer.specs.declared.PacketFields.{PacketFields}
+use Rattle.packet.specs.declared.PacketFields.{PacketFields}
 use Rattle.bench_writer.specs.Content.{Entry, packet, word}
-use Rattle.bench_writer.specs.Draft.{packet_from, packet_refusal, with_packet, packet_in, word_refusal, with_word, word_in, AddPost}
-use Rattle.script.specs.declared.line.Kind.{Kind}
-use Rattle.script.specs.declared.line.Kind.TheVariants.{Nothing, Unreadable, Packet, Word}
-use Rattle.script.specs.declared.line.Line.{Line}
+use Rattle.packet.specs.Packet.{packet_from}
+use Rattle.bench_writer.specs.Draft.{packet_refusal, with_packet, packet_in, word_refusal, with_word, word_in, told, AddPost}
+use Rattle.script.specs.Line.{Kind, Nothing, Unreadable, Packet, Word, Line}
 use Rattle.script.specs.Asked.{nth, asked_of}
 
 -- "102 a line that can't be read"
@@ -57,5 +56,5 @@ buffer_by Packet n d buffer = packet_in d (packet_from (packet_of n)) buffer
 buffer_by (Word k) n d buffer = word_in d (asked_of k n).bytes buffer
 
 -- What taking a line gives.
-abbrev pub TakePost : Line → Draft → List ℕ → Added → List ℕ → Type 0
-TakePost l d buffer = AddPost (refusal_by l.kind l.n d) d (draft_by l.kind d) buffer (buffer_by l.kind l.n d buffer)
+abbrev pub TakePost : Line → Draft → List ℕ → Result Draft Refusal → List ℕ → Type 0
+TakePost l d buffer r = AddPost (refusal_by l.kind l.n d) d (draft_by l.kind d) buffer (buffer_by l.kind l.n d buffer) (told d r)

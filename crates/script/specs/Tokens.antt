@@ -37,3 +37,13 @@ pub record Ends (text : List ℕ) (from r : ℕ) : Type 0 where
   pub within : r ≤ length text
   pub moves : from < length text → is_blank (get_or text from 0) ≡ false → from < r
   pub word : from < r → tokens (drop from text) ≡ take (r - from) (drop from text) ∷ tokens (drop r text)
+
+-- The first part of a text, and what follows it.
+pub record FirstPart (text part rest : List ℕ) : Type 0 where
+  pub begin : ℕ
+  pub end : ℕ
+  pub begins : Begins text 0 begin
+  pub inside : begin < length text
+  pub ends : Ends text begin end
+  pub part_is : part ≡ take (end - begin) (drop begin text)
+  pub rest_is : rest ≡ drop end text

@@ -1,29 +1,26 @@
 // A word from the numbers of a line, by the writer of words.
 ghost use Rattle.std.specs.Prelude.{◌≡◌};
+ghost use Rattle.refusals.specs.Refusals.{code};
 ghost use Rattle.writer.specs.Write.{WritePost};
 ghost use Rattle.writer.specs.declared.WordKind.TheVariants.{Data};
 ghost use Rattle.script.specs.Asked.{are_bytes, asked_of};
 
-use writer::{Fields, REFUSED_FIELD, WordKind};
+use refusals::Refusal;
+use writer::{Fields, WordKind};
 
 // Whether the nine numbers behind the first are bytes.
 fn are_bytes(n: [u64; 10]) -> bool
     ensures { result ≡ are_bytes n }
 {
-    (n[1] <= 255)
-        & ((n[2] <= 255)
-            & ((n[3] <= 255)
-                & ((n[4] <= 255)
-                    & ((n[5] <= 255)
-                        & ((n[6] <= 255) & ((n[7] <= 255) & ((n[8] <= 255) & (n[9] <= 255))))))))
+    n[1..].iter().all(|&byte| byte <= 255)
 }
 
 // "data ID B0 .. B8"
-fn write_data(n: [u64; 10], out: &mut [u8]) -> u8
-    ensures { WritePost (asked_of Data n).fits (asked_of Data n).bytes out.old result out.new }
+fn write_data(n: [u64; 10], out: &mut [u8]) -> Result<(), Refusal>
+    ensures { WritePost (asked_of Data n).fits (asked_of Data n).bytes out.old (code result) out.new }
 {
     if !are_bytes(n) {
-        return REFUSED_FIELD;
+        return Err(Refusal::Field);
     }
     let bytes = [
         n[1] as u8, n[2] as u8, n[3] as u8, n[4] as u8, n[5] as u8, n[6] as u8, n[7] as u8,
@@ -32,9 +29,9 @@ fn write_data(n: [u64; 10], out: &mut [u8]) -> u8
     writer::write_data(n[0], &bytes, out)
 }
 
-// The ten bytes of the word that a line of a kind asks for. Answers 0, 8 or 1, as the writer does.
-pub fn write(kind: WordKind, n: [u64; 10], out: &mut [u8]) -> u8
-    ensures { WritePost (asked_of kind n).fits (asked_of kind n).bytes out.old result out.new }
+// The ten bytes of the word that a line of a kind asks for. Refused with 8 or 1, as by the writer.
+pub fn write(kind: WordKind, n: [u64; 10], out: &mut [u8]) -> Result<(), Refusal>
+    ensures { WritePost (asked_of kind n).fits (asked_of kind n).bytes out.old (code result) out.new }
 {
     match kind {
         WordKind::Ihw => writer::write(Fields::Ihw { active_lanes: n[0] }, out),

@@ -1,4 +1,5 @@
 // What is kept of the words of a link: the last IHW, TDH, internal TDH and CDW, and the open frame. 01, "Records": what is stored where.
+// "A presence flag beside fields", as 01 has it: with an Option for each, khz_payload took 42.5 instructions a clean word in place of 40.7.
 #![tactic(auto)]
 
 pub mod next;

@@ -6,7 +6,7 @@ use Rattle.words.specs.Tdh.{max_bc, trigger_bc, trigger_orbit}
 use Rattle.packet.specs.declared.Rule.{Rule}
 use Rattle.packet.specs.declared.Rule.TheVariants as R
 use Rattle.packet.specs.declared.Settings.{Settings}
-use Rattle.packet.specs.Settings.{counts_orbits}
+use Rattle.packet.specs.Settings.{counts_orbits, period_of}
 use Rattle.records.specs.Records.{when}
 use Rattle.records.specs.Detail.{differ}
 use Rattle.stored.specs.declared.InternalTdh.{InternalTdh}
@@ -30,17 +30,17 @@ pub found_told : (s : Settings) (earlier : InternalTdh) (w : Word) → Legal ear
     → (counts_orbits s.rule && ran_back (orbit_difference earlier.orbit (trigger_orbit w)) earlier.bc
     (trigger_bc w)) ≡ false
     → let found = found_by s.rule (orbit_difference earlier.orbit (trigger_orbit w)) earlier.bc (trigger_bc w) in
-    interval s earlier w ≡ when (differ found s.period) 45 found s.period
+    interval s earlier w ≡ when (differ found (period_of s)) 45 found (period_of s)
 found_told s earlier w legal legal' looked onward =
     simp (le-ltb max_bc earlier.bc legal, le-ltb max_bc (trigger_bc w) legal', looked, onward)
 
 -- By rule 1 that is the found period, whatever the orbits.
 pub period_told : (s : Settings) (earlier : InternalTdh) (w : Word) → s.rule ≡ R.One → Legal earlier.bc
     → Legal (trigger_bc w) → asked s earlier w ≡ true
-    → interval s earlier w ≡ when (differ (period earlier.bc (trigger_bc w)) s.period) 45
-    (period earlier.bc (trigger_bc w)) s.period
+    → interval s earlier w ≡ when (differ (period earlier.bc (trigger_bc w)) (period_of s)) 45
+    (period earlier.bc (trigger_bc w)) (period_of s)
 period_told s earlier w one legal legal' looked =
     let found : Rule → ℕ = λ r. found_by r (orbit_difference earlier.orbit (trigger_orbit w)) earlier.bc
     (trigger_bc w) in
     found_told s earlier w legal legal' looked (simp one)
-    ∙ (λ i. when (differ (found (one i)) s.period) 45 (found (one i)) s.period)
+    ∙ (λ i. when (differ (found (one i)) (period_of s)) 45 (found (one i)) (period_of s))

@@ -1,13 +1,13 @@
 -- 01, "Records": the three kinds of TDH, and the interval.
 -- Assumes nothing.
-use Rattle.std.specs.Prelude.{◌≡◌, ℕ, ◌+◌, ◌-◌, ◌*◌, ◌%◌, ◌^◌, ◌<◌, ◌≤◌, Bool, cond, ◌&&◌, ◌||◌, List, [], ◌∷◌, ◌==◌, nat_le, nat_lt}
+use Rattle.std.specs.Prelude.{◌≡◌, ℕ, ◌+◌, ◌-◌, ◌*◌, ◌%◌, ◌^◌, ◌<◌, ◌≤◌, Bool, cond, is_some, ◌&&◌, ◌||◌, List, [], ◌∷◌, ◌==◌, nat_le, nat_lt}
 use Rattle.words.specs.declared.Word.{Word}
 use Rattle.words.specs.Word.{id_of, slice}
 use Rattle.words.specs.Tdh.{tdh_id, max_bc, trigger_type, internal_trigger, continuation, trigger_bc, trigger_orbit, is_reserved0}
 use Rattle.packet.specs.declared.Rule.{Rule}
 use Rattle.packet.specs.declared.Settings.{Settings}
 use Rattle.packet.specs.declared.Packet.{Packet}
-use Rattle.packet.specs.Settings.{counts_orbits}
+use Rattle.packet.specs.Settings.{counts_orbits, period_of}
 use Rattle.records.specs.declared.Row.{Row}
 use Rattle.records.specs.Records.{when}
 use Rattle.records.specs.Detail.{detailed, differ}
@@ -66,7 +66,7 @@ found_by rule difference previous current =
 
 -- "if a period is set, this TDH is internal and an earlier one was (the last such)"
 abbrev pub asked : Settings → InternalTdh → Word → Bool
-asked s earlier w = s.running && (s.periodic && (internal_trigger w == 1 && earlier.present))
+asked s earlier w = s.running && (is_some s.period && (internal_trigger w == 1 && earlier.present))
 
 -- Of two internal TDHs and their orbit difference, if they are looked at: "when either BC is above 3563, 1045 (previous, current); else 45 if the
 -- period differs (found, set)." 02, ticket 9: "time ran back: record 1046 (previous, current BC) in place of 45. 1045 comes before both."
@@ -83,7 +83,7 @@ interval_row looked rule difference previous current set =
 -- "Interval: ..", between this TDH and the last internal one before it.
 abbrev pub interval : Settings → InternalTdh → Word → Row
 interval s earlier w =
-    interval_row (asked s earlier w) s.rule (orbit_difference earlier.orbit (trigger_orbit w)) earlier.bc (trigger_bc w) s.period
+    interval_row (asked s earlier w) s.rule (orbit_difference earlier.orbit (trigger_orbit w)) earlier.bc (trigger_bc w) (period_of s)
 
 -- "if page is 0 and (internal is 1 or bit 4 of packet trigger type is set)"
 abbrev pub matches_packet : Packet → Word → Bool

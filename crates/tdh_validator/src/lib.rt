@@ -10,8 +10,8 @@ ghost use Rattle.tdh_validator.specs.Tdh.{continuation_rows};
 use packet::{Packet, Rule, Settings};
 use records::{MOST_RECORDS, Row, none, pick, when};
 use stored::{InternalTdh, StoredTdh};
-use words::Word;
 use words::tdh::Tdh;
+use words::{Word, status_word};
 
 // Crossings of an orbit.
 const CROSSINGS: u32 = 3564;
@@ -23,17 +23,9 @@ const HALF_TURN: u32 = 0x8000_0000;
 pub fn sanity_check(word: Word) -> u64
     ensures { result ≡ detail word }
 {
-    let tdh = Tdh { word: word };
-    let id = word.id();
-    let clean = tdh.is_reserved_0();
-    let kind = tdh.trigger_type();
-    let internal = tdh.internal_trigger();
-    let untriggered = (kind == 0) & (internal == 0);
-    pick(
-        id == Tdh::ID,
-        pick(clean, 0, 2) + pick(untriggered, 4, 0),
-        1,
-    )
+    let tdh = Tdh { word };
+    let untriggered = (tdh.trigger_type() == 0) & (tdh.internal_trigger() == 0);
+    status_word::sanity_check(tdh, untriggered)
 }
 
 // How many orbits on, over the turn from 4,294,967,295 to 0.
@@ -100,16 +92,19 @@ fn check_period(
 pub fn check_trigger_interval(settings: Settings, earlier: InternalTdh, word: Word) -> Row
     ensures { result ≡ interval settings earlier word }
 {
-    let tdh = Tdh { word: word };
+    let tdh = Tdh { word };
     let internal = tdh.internal_trigger();
-    let looked = settings.running & (settings.periodic & ((internal == 1) & earlier.present));
+    let looked = settings.running
+        & (settings.period.is_some() & ((internal == 1) & earlier.present));
     let rule = settings.rule;
     let difference = orbit_difference(earlier.orbit, tdh.trigger_orbit());
     let bc = tdh.trigger_bc();
-    check_period(looked, rule, difference, earlier.bc, bc, settings.period)
+    let set = settings.period.unwrap_or(0);
+    check_period(looked, rule, difference, earlier.bc, bc, set)
 }
 
-// Kind TDH: straight after an IHW.
+// Kind TDH: straight after an IHW. It is asked twice, once whether there is any row: inlined there, none of its rows is made.
+#[inline]
 pub fn check_tdh_no_continuation(
     settings: Settings,
     packet: Packet,
@@ -118,7 +113,7 @@ pub fn check_tdh_no_continuation(
 ) -> [Row; MOST_RECORDS]
     ensures { result ≡ padded (tdh_rows settings packet earlier word) }
 {
-    let tdh = Tdh { word: word };
+    let tdh = Tdh { word };
     let fault = sanity_check(word);
     let bc = tdh.trigger_bc();
     let orbit = tdh.trigger_orbit();
@@ -162,7 +157,7 @@ pub fn check_after_tdt_packet_done_true(
 ) -> [Row; MOST_RECORDS]
     ensures { result ≡ padded (after_packet_done_rows settings previous earlier word) }
 {
-    let tdh = Tdh { word: word };
+    let tdh = Tdh { word };
     let fault = sanity_check(word);
     let bc = tdh.trigger_bc();
     let interval = check_trigger_interval(settings, earlier, word);
@@ -186,7 +181,7 @@ pub fn check_continuation(
 ) -> [Row; MOST_RECORDS]
     ensures { result ≡ padded (continuation_rows settings previous word) }
 {
-    let tdh = Tdh { word: word };
+    let tdh = Tdh { word };
     let fault = sanity_check(word);
     let bc = tdh.trigger_bc();
     let orbit = tdh.trigger_orbit();

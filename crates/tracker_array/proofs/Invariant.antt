@@ -1,16 +1,15 @@
 -- The tests of a tracker are the invariant of cdp_running and the widths, no more and no less.
 -- Assumes nothing.
 use Prim.Native.Nat.{ℕ, ◌≤◌, ◌<◌, ◌^◌}
-use mathlib.Core.Path.{◌≡◌, refl, sym, ap, ◌∙◌}
-use mathlib.Core.Bool.{Bool, true, false, cond, ◌&&◌}
+use mathlib.Core.Path.{◌≡◌, sym, ap, ◌∙◌}
+use mathlib.Core.Bool.{Bool, true, false, ◌&&◌}
 use mathlib.Core.Logic.{◌↔◌}
 use native.Mathlib.Omega.{arith}
 use lib.Dec.{ltb}
 use borrow.Author.Tests.{ltb-true, ltb-false, lt-ltb, le-ltb}
-use Rattle.words.proofs.Tests.{tests}
-use Rattle.packet.specs.declared.Settings.{Settings}
+use Rattle.words.proofs.Tests.{both, and_is, tests}
 use Rattle.packet.specs.declared.Packet.{Packet}
-use Rattle.packet.specs.Settings.{GoodSettings, settings_of}
+use Rattle.packet.specs.Settings.{period_of}
 use Rattle.packet.specs.Packet.{no_packet, most_packets}
 use Rattle.payload_fsm.specs.declared.State.{State}
 use Rattle.payload_fsm.specs.declared.State.TheVariants as S
@@ -23,16 +22,13 @@ use Rattle.stored.specs.Kept.{GoodIhw, GoodTdh, GoodInternal, GoodCdw, GoodFrame
 use Rattle.cdp_running.specs.declared.Tracker.{Tracker}
 use Rattle.cdp_running.specs.Tracker.{Good}
 use Rattle.tracker_array.specs.Array.{Sized}
-use Rattle.tracker_array.specs.Read.{settings_good, ihw_good, tdh_good, internal_good, cdw_good, frame_good}
-use Rattle.tracker_array.specs.Read.{packets_good, packet_blank, in_start, blank, is_good}
+use Rattle.tracker_array.specs.Read.{ihw_good, tdh_good, internal_good, cdw_good, frame_good}
+use Rattle.tracker_array.specs.Read.{packets_good, packet_blank, in_start, blank, kept_good, is_good}
 use Rattle.tracker_array.proofs.State.{starts}
 
 -- Each part: its test, and what holds of it.
 start_is : (s : State) → (in_start s ≡ true) ↔ (s ≡ S.Ihw)
 start_is s = (starts s, ap in_start)
-
-settings_is : (s : Settings) → (settings_good s ≡ true) ↔ ((s.period < 2 ^ 32) × GoodSettings s)
-settings_is s = simp tests (λ (low, zero). (low, record { absent = zero }), λ (low, g). (low, g.absent))
 
 ihw_is : (i : StoredIhw) → (ihw_good i ≡ true) ↔ GoodIhw i
 ihw_is i =
@@ -91,33 +87,18 @@ packet_is p = (none, ap packet_blank)
         let (position, (orbit, (trigger, (bc, (page, (stop, format)))))) = simp tests at e in
         λ j. record { position = position j; orbit = orbit j; trigger = trigger j; bc = bc j; page = page j; stop = stop j; format = format j }
 
-ruleset parts = (start_is, settings_is, ihw_is, tdh_is, internal_is, cdw_is, frame_is, packets_is, packet_is, tests)
-
--- A period that is 0 where it is absent is what the start keeps of it.
-kept : (b : Bool) (n : ℕ) → (b ≡ false → n ≡ 0) → n ≡ cond b n 0
-kept true n h = refl
-kept false n h = h refl
+ruleset parts = (start_is, ihw_is, tdh_is, internal_is, cdw_is, frame_is, packets_is, packet_is, tests)
 
 -- No packet, and the rest as the start gave it.
 abbrev bare : Tracker → Bool
 bare t = packet_blank t.packet && blank t
 
-pub tests_good : (t : Tracker) → is_good t ≡ true → Good t × Sized t
-tests_good t e =
-    let (settings, ((counted, few), (packet, (count, ((ihw, (tdh, (internal, (cdw, frame)))), (present, fresh)))))) = simp parts at e in
-    let period = kept t.settings.periodic t.settings.period settings.1.absent in
+pub kept_tests : (t : Tracker) → period_of t.settings < 2 ^ 32 → kept_good t ≡ true → Good t × Sized t
+kept_tests t period e =
+    let ((counted, few), (packet, (count, ((ihw, (tdh, (internal, (cdw, frame)))), (present, fresh))))) = simp parts at e in
     let none : t.accepted ≡ false → t.packets ≡ 0 =
-    λ o. let low = ltb-false 0 t.packets (sym counted ∙ o) in omega arith in
-    let same : t.settings ≡ settings_of t.settings =
-    λ j. record {
-      running = t.settings.running;
-      frames = t.settings.frames;
-      periodic = t.settings.periodic;
-      period = period j;
-      rule = t.settings.rule;
-    } in (
+    λ o. let low = ltb-false 0 t.packets (sym counted ∙ o) in omega arith in (
       record {
-        settings = settings.1;
         packet = simp tests packet;
         count = count;
         stored = record { ihw = ihw; tdh = tdh.1; internal = internal.1; cdw = cdw };
@@ -129,7 +110,7 @@ tests_good t e =
             let (packet, (state, (count, (seen, (no_ihw, (no-tdh, (no_internal, (no_cdw, no-frame)))))))) = fresh o in
             λ j.
             record {
-              settings = same j;
+              settings = t.settings;
               accepted = o j;
               packets = none o j;
               packet = packet j;
@@ -146,32 +127,35 @@ tests_good t e =
         counted = counted;
         few = few;
       },
-      record { period = settings.0; orbit = tdh.0; internal_orbit = internal.0 },
+      record { period = period; orbit = tdh.0; internal_orbit = internal.0 },
     )
 
-pub good_tests : (t : Tracker) → Good t → Sized t → is_good t ≡ true
-good_tests t g s =
+pub tests_kept : (t : Tracker) → Good t → Sized t → kept_good t ≡ true
+tests_kept t g s =
     let range = simp tests at g.packet in
     let fresh : t.accepted ≡ false → bare t ≡ true = λ o. ap bare (g.fresh o) in
     simp parts (
-      (s.period, g.settings),
+      (g.counted, g.few),
       (
-        (g.counted, g.few),
+        range,
         (
-          range,
+          g.count,
           (
-            g.count,
             (
+              g.stored.ihw,
               (
-                g.stored.ihw,
-                (
-                  (s.orbit, g.stored.tdh),
-                  ((s.internal_orbit, g.stored.internal), (g.stored.cdw, g.frame)),
-                ),
+                (s.orbit, g.stored.tdh),
+                ((s.internal_orbit, g.stored.internal), (g.stored.cdw, g.frame)),
               ),
-              ((g.ihw_present, g.tdh_present), simp parts at fresh),
             ),
+            ((g.ihw_present, g.tdh_present), simp parts at fresh),
           ),
         ),
       ),
     )
+
+pub tests_good : (t : Tracker) → is_good t ≡ true → Good t × Sized t
+tests_good t e = let (period, good) = both (ltb (period_of t.settings) (2 ^ 32)) _ e in kept_tests t (ltb-true _ _ period) good
+
+pub good_tests : (t : Tracker) → Good t → Sized t → is_good t ≡ true
+good_tests t g s = (and_is _ _).1 (lt-ltb _ _ s.period, tests_kept t g s)

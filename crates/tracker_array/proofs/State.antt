@@ -1,11 +1,7 @@
 -- States and their numbers.
 -- Assumes nothing.
-use Prim.Native.Nat.{ℕ, ◌≤◌}
-use mathlib.Core.Path.{◌≡◌, refl, sym, ◌∙◌}
-use mathlib.Core.Bool.{Bool, true, false, cond, not, ◌&&◌, true≢false}
-use native.Mathlib.Omega.{arith}
-use lib.Dec.{eqb}
-use borrow.Author.Tests.{eqb-true, eqb-false, ne_eqb}
+use Rattle.std.proofs.Common.{ℕ, ◌≤◌, ◌≡◌, refl, sym, ◌∙◌, Bool, true, false, cond, not, ◌&&◌, true≢false, arith, eqb, eqb-true}
+use borrow.Author.Tests.{eqb-false}
 use Rattle.payload_fsm.specs.declared.State.{State}
 use Rattle.payload_fsm.specs.declared.State.TheVariants as S
 use Rattle.cdp_running.specs.Tracker.{past_ihw, past_tdh}
@@ -89,17 +85,6 @@ number_back n h = at (eqb n 0) (eqb n 1) (eqb n 2) (eqb n 3) (eqb n 4) (eqb n 5)
         let n4 = eqb-false n 4 t in
         let n5 = eqb-false n 5 u in
         omega arith
-
-pub rest_state : (n : ℕ) → 6 ≤ n → S.CTdh ≡ state_of n
-rest_state n h =
-    simp (
-      ne_eqb n 0 (λ e. omega arith),
-      ne_eqb n 1 (λ e. omega arith),
-      ne_eqb n 2 (λ e. omega arith),
-      ne_eqb n 3 (λ e. omega arith),
-      ne_eqb n 4 (λ e. omega arith),
-      ne_eqb n 5 (λ e. omega arith),
-    )
 
 pub starts : (s : State) → in_start s ≡ true → s ≡ S.Ihw
 starts S.Ihw e = refl

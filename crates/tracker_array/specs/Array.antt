@@ -1,12 +1,13 @@
 -- A tracker as 48 numbers, for callers who own its memory: which number stands where, and which numbers are a tracker's. The rest of the places are 0.
 -- Assumes nothing.
-use Rattle.std.specs.Prelude.{ℕ, ◌-◌, ◌<◌, ◌^◌, ◌≡◌, Bool, cond, ◌||◌, List, [], ◌∷◌, ◌++◌, leb, eqb, length, replicate}
+use Rattle.std.specs.Prelude.{ℕ, ◌-◌, ◌<◌, ◌^◌, ◌≡◌, Bool, cond, is_some, ◌||◌, List, [], ◌∷◌, ◌++◌, leb, eqb, length, replicate}
 use Rattle.packet.specs.declared.Rule.{Rule}
 use Rattle.packet.specs.declared.Rule.TheVariants as R
 use Rattle.packet.specs.declared.Settings.{Settings}
 use Rattle.packet.specs.declared.Packet.{Packet}
-use Rattle.payload_fsm.specs.declared.State.{State}
-use Rattle.payload_fsm.specs.declared.State.TheVariants as S
+use Rattle.packet.specs.Settings.{period_of}
+pub use Rattle.packet.specs.Settings.{rule_number}
+pub use Rattle.payload_fsm.specs.States.{state_number}
 use Rattle.stored.specs.declared.StoredTdh.{StoredTdh}
 use Rattle.stored.specs.declared.InternalTdh.{InternalTdh}
 use Rattle.stored.specs.declared.StoredCdw.{StoredCdw}
@@ -34,19 +35,6 @@ is_on n = eqb n 1
 abbrev pub is_flag : ℕ → Bool
 is_flag n = leb n 1
 
-abbrev pub state_number : State → ℕ
-state_number S.Ihw = 0
-state_number S.Tdh = 1
-state_number S.Data = 2
-state_number S.CData = 3
-state_number S.Three = 4
-state_number S.CIhw = 5
-state_number S.CTdh = 6
-
-abbrev pub rule_number : Rule → ℕ
-rule_number R.One = 1
-rule_number R.Two = 2
-
 -- 02, ticket 9: rule 1 or rule 2.
 abbrev pub is_rule : ℕ → Bool
 is_rule n = eqb n 1 || eqb n 2
@@ -55,7 +43,7 @@ abbrev pub rule_of : ℕ → Rule
 rule_of n = cond (eqb n 2) R.Two R.One
 
 abbrev pub settings_numbers : Settings → List ℕ
-settings_numbers s = flag s.running ∷ flag s.frames ∷ flag s.periodic ∷ s.period ∷ rule_number s.rule ∷ []
+settings_numbers s = flag s.running ∷ flag s.frames ∷ flag (is_some s.period) ∷ period_of s ∷ rule_number s.rule ∷ []
 
 abbrev pub packet_numbers : Packet → List ℕ
 packet_numbers p = p.position ∷ p.orbit ∷ p.trigger ∷ p.bc ∷ p.page ∷ p.stop ∷ p.format ∷ []
@@ -102,7 +90,7 @@ encode_of t =
 
 -- What fits the widths of its types and the invariant does not speak of.
 pub record Sized (t : Tracker) : Type 0 where
-  pub period : t.settings.period < 2 ^ 32
+  pub period : period_of t.settings < 2 ^ 32
   pub orbit : t.stored.tdh.orbit < 2 ^ 32
   pub internal_orbit : t.stored.internal.orbit < 2 ^ 32
 

@@ -2,9 +2,11 @@
 -- exactly this (`tests_decide`).
 -- Assumes nothing.
 use Rattle.std.specs.Prelude.{ℕ, zero, suc, ◌-◌, ◌^◌, Bool, true, false, cond, not, ◌&&◌, ◌||◌, List, leb, ltb, eqb, length, get_or}
+use Rattle.std.specs.Bool.{then_some}
 use Rattle.packet.specs.declared.Settings.{Settings}
 use Rattle.packet.specs.declared.Packet.{Packet}
 use Rattle.packet.specs.Packet.{in_range, max_words, most_packets, most_position}
+use Rattle.packet.specs.Settings.{period_of}
 use Rattle.payload_fsm.specs.declared.State.{State}
 use Rattle.payload_fsm.specs.declared.State.TheVariants as S
 use Rattle.stored.specs.declared.StoredTdh.{StoredTdh}
@@ -33,8 +35,7 @@ settings_in a =
     record {
       running = is_on (place a P.running);
       frames = is_on (place a P.frames);
-      periodic = is_on (place a P.periodic);
-      period = place a P.period;
+      period = then_some (is_on (place a P.periodic)) (place a P.period);
       rule = rule_of (place a P.rule);
     }
 
@@ -99,10 +100,11 @@ zeros_from (suc n) i a = eqb (place a i) 0 && zeros_from n (suc i) a
 abbrev pub in_form : List ℕ → Bool
 in_form a = eqb (place a P.mark) mark && (flags_fit a && (is_rule (place a P.rule) && zeros_from (size - P.unused) P.unused a))
 
--- The invariant of cdp_running, `Good`, and the widths, `Sized`, as tests: proofs/Invariant.antt has that they are the same.
-abbrev pub settings_good : Settings → Bool
-settings_good s = ltb s.period (2 ^ 32) && (s.periodic || eqb s.period 0)
+-- A period of 32 bits, which is 0 where there is none.
+abbrev pub settings_good : List ℕ → Bool
+settings_good a = ltb (place a P.period) (2 ^ 32) && (is_on (place a P.periodic) || eqb (place a P.period) 0)
 
+-- The invariant of cdp_running, `Good`, and the widths, `Sized`, as tests: proofs/Invariant.antt has that they are the same.
 abbrev pub ihw_good : StoredIhw → Bool
 ihw_good i = ltb i.lanes (2 ^ 28) && (i.present || eqb i.lanes 0)
 
@@ -158,15 +160,18 @@ blank t =
     && (not t.stored.ihw.present
     && (not t.stored.tdh.present && (not t.stored.internal.present && (not t.stored.cdw.present && not t.frame.opened))))))
 
-abbrev pub is_good : Tracker → Bool
-is_good t =
-    settings_good t.settings
-    && (packets_good t.accepted t.packets
+abbrev pub kept_good : Tracker → Bool
+kept_good t =
+    packets_good t.accepted t.packets
     && (in_range t.packet
     && (leb t.at.count max_words
     && (stored_good t.settings.frames t.stored t.frame
-    && (nothing_missing t.at.fsm.state t.stored && (t.accepted || (packet_blank t.packet && blank t)))))))
+    && (nothing_missing t.at.fsm.state t.stored && (t.accepted || (packet_blank t.packet && blank t))))))
 
--- The length, the form, one of the seven states, and the invariant.
+-- The same with the width of the period, which in_form's numbers are asked by themselves.
+abbrev pub is_good : Tracker → Bool
+is_good t = ltb (period_of t.settings) (2 ^ 32) && kept_good t
+
+-- The length, the form, the period, one of the seven states, and the invariant.
 unfoldable pub is_tracker : List ℕ → Bool
-is_tracker a = eqb (length a) size && (in_form a && (leb (place a P.state) 6 && is_good (tracker_in a)))
+is_tracker a = eqb (length a) size && (in_form a && (settings_good a && (leb (place a P.state) 6 && kept_good (tracker_in a))))

@@ -1,13 +1,11 @@
-// A tracker as 48 numbers, for callers who own its memory: which numbers are one, what its parts are, and writing one.
+// A tracker as 48 numbers, for callers who own its memory: which numbers are one, and writing one. tracker_memory reads them part by part.
 #![tactic(auto)]
 
 ghost use Rattle.std.specs.Prelude.{◌≡◌};
 ghost use Rattle.tracker_array.specs.Array.{written_to};
 ghost use Rattle.tracker_array.specs.Read.{is_tracker};
 
-pub mod flags;
 pub mod place;
-pub mod read;
 pub mod rules;
 pub mod states;
 mod test;

@@ -5,10 +5,11 @@ ghost use Rattle.tracker_array.specs.Array.{size, is_on};
 ghost use Rattle.tracker_array.specs.Place as P;
 ghost use Rattle.tracker_array.specs.Read.{place, settings_in, packet_in, ihw_in, tdh_in, internal_in, cdw_in, stored_in, frame_in, tracker_in};
 ghost use Rattle.tracker_array.specs.Read.{flags_fit, zeros_from, in_form, settings_good, ihw_good, tdh_good, internal_good, cdw_good, frame_good};
-ghost use Rattle.tracker_array.specs.Read.{packets_good, stored_good, nothing_missing, is_good};
+ghost use Rattle.tracker_array.specs.Read.{packets_good, stored_good, nothing_missing, kept_good};
 ghost use Rattle.tracker_array.specs.Good.{InForm};
 
 use crate::{MARK, SIZE, place, rules};
+use packet::PacketFields;
 
 // The largest position of a word: 2^62 + 64 + 16 * 4095.
 const MOST_POSITION: u64 = 0x4000_0000_0001_0030;
@@ -61,7 +62,7 @@ fn fits(flag: u64, most: u64, n: u64) -> bool
 
 fn settings(a: &[u64]) -> bool
     requires { InForm a.now }
-    ensures { result ≡ settings_good (settings_in a.now) }
+    ensures { result ≡ settings_good a.now }
 {
     fits(a[place::PERIODIC], 0xFFFF_FFFF, a[place::PERIOD])
 }
@@ -70,15 +71,16 @@ fn packet(a: &[u64]) -> bool
     requires { InForm a.now }
     ensures { result ≡ in_range (packet_in a.now) }
 {
-    packet::are_in_range(
-        a[place::POSITION],
-        a[place::ORBIT],
-        a[place::TRIGGER],
-        a[place::BC],
-        a[place::PAGE],
-        a[place::STOP],
-        a[place::FORMAT],
-    )
+    let fields = PacketFields {
+        position: a[place::POSITION],
+        orbit: a[place::ORBIT],
+        trigger: a[place::TRIGGER],
+        bc: a[place::BC],
+        page: a[place::PAGE],
+        stop: a[place::STOP],
+        format: a[place::FORMAT],
+    };
+    fields.is_in_range()
 }
 
 fn ihw(a: &[u64]) -> bool
@@ -133,7 +135,7 @@ fn packets(a: &[u64]) -> bool
 // What came in: settings, packets, the packet and count.
 fn came_good(a: &[u64]) -> bool
     requires { InForm a.now }
-    ensures { result ≡ (settings_good (settings_in a.now) && (packets_good true (place a.now P.packets)
+    ensures { result ≡ (settings_good a.now && (packets_good true (place a.now P.packets)
         && (in_range (packet_in a.now) && leb (place a.now P.count) max_words))) }
 {
     if !settings(a) {
@@ -180,7 +182,7 @@ fn nothing_missing(a: &[u64]) -> bool
 // As the start gave it: nothing but the settings.
 fn bare(a: &[u64]) -> bool
     requires { InForm a.now }
-    ensures { result ≡ (settings_good (settings_in a.now) && zeros_from (P.unused - P.packets) P.packets a.now) }
+    ensures { result ≡ (settings_good a.now && zeros_from (P.unused - P.packets) P.packets a.now) }
 {
     settings(a) & zeros(a, place::PACKETS, place::UNUSED)
 }
@@ -188,7 +190,7 @@ fn bare(a: &[u64]) -> bool
 // One of the seven states, and the invariant: with a packet, or as the start gave it.
 pub(crate) fn is_good(a: &[u64]) -> bool
     requires { InForm a.now }
-    ensures { result ≡ (leb (place a.now P.state) 6 && is_good (tracker_in a.now)) }
+    ensures { result ≡ (settings_good a.now && (leb (place a.now P.state) 6 && kept_good (tracker_in a.now))) }
 {
     if a[place::ACCEPTED] != 1 {
         return bare(a);

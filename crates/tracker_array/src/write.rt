@@ -5,8 +5,7 @@ ghost use Rattle.tracker_array.specs.Array.{size, mark, flag, settings_numbers, 
 ghost use Rattle.tracker_array.specs.Array.{first_numbers, stored_numbers};
 ghost use Rattle.tracker_array.specs.Place as P;
 
-use crate::flags::flag;
-use crate::{MARK, SIZE, place, rules, states};
+use crate::{MARK, SIZE, place};
 use cdp_running::At;
 use packet::{Packet, Settings};
 use stored::{Frame, InternalTdh, Stored, StoredTdh};
@@ -15,12 +14,11 @@ fn settings(s: Settings, a: &mut [u64])
     requires { length a.old ≡ size }
     ensures { a.new ≡ sets a.old P.settings (settings_numbers s) }
 {
-    a[place::RUNNING] = flag(s.running);
-    a[place::FRAMES] = flag(s.frames);
-    a[place::PERIODIC] = flag(s.periodic);
-    a[place::PERIOD] = s.period as u64;
-    let rule = s.rule;
-    a[place::RULE] = rules::rule_number(rule);
+    a[place::RUNNING] = u64::from(s.running);
+    a[place::FRAMES] = u64::from(s.frames);
+    a[place::PERIODIC] = u64::from(s.period.is_some());
+    a[place::PERIOD] = s.period.unwrap_or(0) as u64;
+    a[place::RULE] = u64::from(s.rule);
 }
 
 fn packet(p: Packet, a: &mut [u64])
@@ -42,7 +40,7 @@ fn flag_and_number(there: bool, n: u64, at: usize, a: &mut [u64])
     requires at_bound { at + 2 ≤ size }
     ensures { a.new ≡ sets a.old at (flag there ∷ n ∷ []) }
 {
-    a[at] = flag(there);
+    a[at] = u64::from(there);
     a[at + 1] = n;
 }
 
@@ -50,7 +48,7 @@ fn tdh(h: StoredTdh, a: &mut [u64])
     requires { length a.old ≡ size }
     ensures { a.new ≡ sets a.old P.tdh (tdh_numbers h) }
 {
-    a[place::TDH] = flag(h.present);
+    a[place::TDH] = u64::from(h.present);
     a[place::TDH_TRIGGER] = h.trigger as u64;
     a[place::TDH_BC] = h.bc as u64;
     a[place::TDH_ORBIT] = h.orbit as u64;
@@ -60,7 +58,7 @@ fn internal(h: InternalTdh, a: &mut [u64])
     requires { length a.old ≡ size }
     ensures { a.new ≡ sets a.old P.internal (internal_numbers h) }
 {
-    a[place::INTERNAL] = flag(h.present);
+    a[place::INTERNAL] = u64::from(h.present);
     a[place::INTERNAL_BC] = h.bc as u64;
     a[place::INTERNAL_ORBIT] = h.orbit as u64;
 }
@@ -76,11 +74,9 @@ fn reached(at: At, a: &mut [u64])
     requires { length a.old ≡ size }
     ensures { a.new ≡ sets a.old P.reached (at_numbers at) }
 {
-    let fsm = at.fsm;
-    let state = fsm.state;
-    a[place::STATE] = states::state_number(state);
+    a[place::STATE] = u64::from(at.fsm.state);
     a[place::COUNT] = at.count as u64;
-    a[place::SEEN] = flag(at.seen);
+    a[place::SEEN] = u64::from(at.seen);
 }
 
 // 0 at the places that are not used.

@@ -1,13 +1,10 @@
 -- Lanes that can't be (02, ticket 4): no data id has one, and each other id of a barrel has one. So a 1071 or 1072 names a lane that there is, and a word
 -- with one of these other ids gets 1074 whichever lanes are active.
 -- Assumes nothing.
-use Prim.Native.Nat.{ℕ, ◌/◌, ◌≤◌, ◌<◌}
-use mathlib.Core.Path.{◌≡◌, refl, sym, ap, ◌∙◌}
-use mathlib.Core.Bool.{Bool, true, false, cond, not, ◌&&◌, and-false, true≢false}
-use mathlib.Core.List.{[], ◌∷◌}
-use native.Mathlib.Omega.{arith}
-use lib.Dec.{ltb, eqb}
-use borrow.Author.Tests.{ltb-true, ltb-false, eqb-true, eqb-false, ne_eqb, not-false, lt-ltb, le-ltb}
+use Rattle.std.proofs.Common.{ℕ, ◌/◌, ◌≤◌, ◌<◌, ◌≡◌, refl, sym, ap, ◌∙◌, Bool, true, false, cond, not, ◌&&◌, true≢false, [], ◌∷◌, arith, ltb, eqb}
+use Rattle.std.proofs.Common.{ltb-true, ltb-false, eqb-true, ne_eqb, lt-ltb, le-ltb}
+use mathlib.Core.Bool.{and-false}
+use borrow.Author.Tests.{eqb-false, not-false}
 use Rattle.words.specs.declared.Word.{Word}
 use Rattle.words.specs.declared.lanes.LaneAnswer.TheVariants as L
 use Rattle.words.specs.Word.{id_of}

@@ -2,9 +2,9 @@
 -- stored. R, kind IHW: 1120 stop not 0; 1121 page not 0 (first is the number)." The page as 02, ticket 3, corrects it: "1121 in the start state for a
 -- page not 0, and 1122 in the three-way state for a page of 0 (first 0). Stop stays 0 in both."
 -- Assumes nothing.
-use Rattle.std.specs.Prelude.{ℕ, Bool, cond, not, ◌&&◌, List, [], ◌∷◌, eqb}
+use Rattle.std.specs.Prelude.{ℕ, Bool, false, not, ◌&&◌, List, [], ◌∷◌, eqb}
 use Rattle.words.specs.declared.Word.{Word}
-use Rattle.words.specs.Word.{id_of}
+use Rattle.words.specs.StatusWord.{fault}
 use Rattle.words.specs.Ihw.{ihw_id, is_reserved0}
 use Rattle.packet.specs.declared.Settings.{Settings}
 use Rattle.packet.specs.declared.Packet.{Packet}
@@ -13,7 +13,7 @@ use Rattle.records.specs.Records.{when}
 use Rattle.records.specs.Detail.{detailed, differ}
 
 abbrev pub detail : Word → ℕ
-detail w = cond (eqb (id_of w) ihw_id) (cond (is_reserved0 w) 0 2) 1
+detail = fault ihw_id is_reserved0 false
 
 -- Kind IHW: a word is taken as one in two states only, the three-way state (`three`) and else the start state.
 abbrev pub ihw_rows : Settings → Packet → Bool → Word → List Row

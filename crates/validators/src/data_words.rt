@@ -8,7 +8,7 @@ use data_ids::{
     ob_data_word_id_to_lane,
 };
 use packet::Settings;
-use records::{MOST_RECORDS, Row, none, pick, when};
+use records::{MOST_RECORDS, Row, pick, when};
 use stored::StoredCdw;
 use stored::next::is_first_cdw;
 use words::Word;
@@ -41,7 +41,7 @@ pub fn check(
 ) -> [Row; MOST_RECORDS]
     ensures { result ≡ padded (data_rows settings seen lanes last guessed word) }
 {
-    let cdw = Cdw { word: word };
+    let cdw = Cdw { word };
     let id = word.id();
     let first = is_first_cdw(seen, word);
     let user = cdw.calibration_user_fields();
@@ -51,22 +51,22 @@ pub fn check(
     let outer = ob_data_word_id_to_lane(id);
     let input = ob_data_word_id_to_input_number_connector(id);
     let laned = settings.running & !first;
-    let mut rows = [none(); MOST_RECORDS];
-    rows[0] = when(guessed, 991, id as u64, 0);
-    rows[1] = when(
-        settings.running & (first & (last.present & ((last.user != user) & (index != 0)))),
-        81,
-        index as u64,
-        0,
-    );
-    rows[2] = when(!first & !known, 70, id as u64, 0);
-    rows[3] = lane_row(laned & (id / 32 == 1), 1072, true, inner, lanes);
-    rows[4] = lane_row(laned & (id / 32 == 2), 1071, false, outer, lanes);
-    rows[5] = when(
-        laned & ((id / 32 == 2) & (input > 6)),
-        1073,
-        input as u64,
-        0,
-    );
-    rows
+    [
+        when(guessed, 991, id as u64, 0),
+        when(
+            settings.running & (first & (last.present & ((last.user != user) & (index != 0)))),
+            81,
+            index as u64,
+            0,
+        ),
+        when(!first & !known, 70, id as u64, 0),
+        lane_row(laned & (id / 32 == 1), 1072, true, inner, lanes),
+        lane_row(laned & (id / 32 == 2), 1071, false, outer, lanes),
+        when(
+            laned & ((id / 32 == 2) & (input > 6)),
+            1073,
+            input as u64,
+            0,
+        ),
+    ]
 }

@@ -7,13 +7,14 @@ ghost use Rattle.std.specs.Prelude.{◌+◌, ◌*◌, ◌<◌, ◌≤◌, length
 ghost use Rattle.records.specs.Records.{record_width, most_records};
 ghost use Rattle.cdp_running.specs.Tracker.{Good};
 
-use cdp_running::{Told, Tracker};
+use cdp_running::{Taken, Tracker};
 use packet::{Packet, Rule, Settings};
 use std::fs;
 use std::io::Read;
 use std::rt::Files;
 use stored::FrameTold;
-use words::little_endian::{get16, get32, get64};
+use tracker_memory::WordCall;
+use words::little_endian::get;
 
 // The most calls of a file.
 const MAX_CALLS: u64 = 65536;
@@ -50,7 +51,7 @@ struct Tally {
 fn fill<F: Read>(from: &mut F, bytes: &mut [u8], n: usize) -> usize
     requires { n ≤ length bytes.old }
 {
-    input::read_all(from, &mut bytes[..n]).n
+    input::read_all(from, &mut bytes[..n]).unwrap_or_else(|failed| failed.read)
 }
 
 fn take<F: Read>(from: &mut F, n: usize) -> Part
@@ -74,19 +75,18 @@ fn settings_of(b: &[u8; 22]) -> Settings {
     Settings {
         running: b[0] == 1,
         frames: b[1] == 1,
-        periodic: b[2] == 1,
-        period: get16(b, 3) as u32,
+        period: (b[2] == 1).then_some(get::<2>(b, 3) as u32),
         rule: Rule::One,
     }
 }
 
 fn packet_of(b: &[u8; 22]) -> Packet {
     Packet {
-        position: get64(b, 0),
-        orbit: get32(b, 8) as u32,
-        trigger: get32(b, 12) as u32,
-        bc: get16(b, 16) as u16,
-        page: get16(b, 18) as u16,
+        position: get::<8>(b, 0),
+        orbit: get::<4>(b, 8) as u32,
+        trigger: get::<4>(b, 12) as u32,
+        bc: get::<2>(b, 16) as u16,
+        page: get::<2>(b, 18) as u16,
         stop: b[20],
         format: b[21],
     }
@@ -96,8 +96,8 @@ fn packet_of(b: &[u8; 22]) -> Packet {
 fn same_numbers(b: &[u8; 22], out: &[u64; MOST_NUMBERS], at: usize, packets: u64) -> bool
     requires { at + record_width ≤ most_records * record_width }
 {
-    let there = (out[at] == get64(b, 0)) & (out[at + 1] == get16(b, 8));
-    let numbers = (out[at + 2] == get32(b, 10)) & (out[at + 3] == get32(b, 14));
+    let there = (out[at] == get::<8>(b, 0)) & (out[at + 1] == get::<2>(b, 8));
+    let numbers = (out[at + 2] == get::<4>(b, 10)) & (out[at + 3] == get::<4>(b, 14));
     there & (numbers & (out[at + 4] == packets))
 }
 
@@ -125,7 +125,7 @@ fn same_records<F: Read>(from: &mut F, out: &[u64; MOST_NUMBERS], n: u8, packets
 
 // Are these the start and the end that the bytes have?
 fn same_ends(b: &[u8; 22], start: u64, end: u64) -> bool {
-    (start == get64(b, 0)) & (end == get64(b, 8))
+    (start == get::<8>(b, 0)) & (end == get::<8>(b, 8))
 }
 
 // Is a frame, by its number and what the file has next, the one told?
@@ -147,42 +147,54 @@ fn same_frame<F: Read>(from: &mut F, told: FrameTold, frame: u8) -> bool {
 }
 
 // Is the answer to a word the one that the file has next: kind, guessed, frame, number of records, and what hangs on these?
-fn same_answer<F: Read>(from: &mut F, told: Told, out: &[u64; MOST_NUMBERS], packets: u64) -> bool {
+fn same_answer<F: Read>(
+    from: &mut F,
+    taken: Taken,
+    out: &[u64; MOST_NUMBERS],
+    packets: u64,
+) -> bool {
     let next = take(from, 4);
     let b = next.bytes;
-    match told {
-        Told::Taken(taken) => {
-            let kind = taken.kind;
-            let frame = taken.frame;
-            let as_kind = payload_fsm::kind_number(kind) == b[0];
-            let as_guess = one(taken.guessed) == b[1] as u32;
-            let as_count = taken.records == b[3] as u64;
-            let as_frame = same_frame(from, frame, b[2]);
-            let as_records = same_records(from, out, b[3], packets);
-            next.whole & (as_kind & (as_guess & (as_frame & (as_count & as_records))))
-        }
-        Told::Refused(n) => false,
-    }
+    let frame = taken.frame;
+    let as_kind = u8::from(taken.kind) == b[0];
+    let as_guess = one(taken.guessed) == b[1] as u32;
+    let as_count = taken.records == b[3] as u64;
+    let as_frame = same_frame(from, frame, b[2]);
+    let as_records = same_records(from, out, b[3], packets);
+    next.whole & (as_kind & (as_guess & (as_frame & (as_count & as_records))))
 }
 
-// A word, behind so many packets since the start.
+// A word, behind so many packets since the start. None is refused: the files hold words that are taken.
 fn word<F: Read>(t: Tracker, from: &mut F, packets: u64) -> Replayed
     requires { Good t }
     ensures { Good result.tracker }
 {
     let mut bytes = [0u8; 10];
-    let got = input::read_all(from, &mut bytes).n;
+    let got = input::read_all(from, &mut bytes).unwrap_or_else(|failed| failed.read);
     let mut out = [0u64; MOST_NUMBERS];
-    let a = t.word(&bytes[..got], &mut out);
-    let told = a.told;
-    let after = a.tracker;
-    let same = same_answer(from, told, &out, packets);
+    match t.word(&bytes[..got], &mut out) {
+        Ok((after, taken)) => {
+            let same = same_answer(from, taken, &out, packets);
+            replayed_word(after, !same)
+        }
+        Err(_) => {
+            let _ = take(from, 4);
+            replayed_word(t, true)
+        }
+    }
+}
+
+// What came of a word.
+fn replayed_word(t: Tracker, differs: bool) -> Replayed
+    requires { Good t }
+    ensures { Good result.tracker }
+{
     Replayed {
-        tracker: after,
+        tracker: t,
         start: false,
         packet: false,
         word: true,
-        differs: !same,
+        differs: differs,
         last: false,
     }
 }
@@ -211,14 +223,16 @@ fn packet<F: Read>(t: Tracker, from: &mut F) -> Replayed
     let next = take(from, 22);
     let b = next.bytes;
     let header = packet_of(&b);
-    let a = t.packet(header);
-    let after = a.tracker;
+    let (after, taken) = match t.packet(header) {
+        Ok(after) => (after, true),
+        Err(_) => (t, false),
+    };
     Replayed {
         tracker: after,
         start: false,
         packet: true,
         word: false,
-        differs: !(next.whole & (a.refusal == 0)),
+        differs: !(next.whole & taken),
         last: false,
     }
 }
@@ -291,8 +305,7 @@ fn replay<F: Read>(from: &mut F) -> Tally {
     let mut t = Tracker::start(Settings {
         running: false,
         frames: false,
-        periodic: false,
-        period: 0,
+        period: None,
         rule: Rule::One,
     });
     let mut y = Tally {

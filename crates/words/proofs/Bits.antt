@@ -1,10 +1,7 @@
 -- Bits of a word and of its halves: one law for each half, and that a loaded word is the number that its bytes are.
 -- Assumes nothing.
-use Prim.Native.Nat.{ℕ, ◌+◌, ◌-◌, ◌*◌, ◌/◌, ◌%◌, ◌^◌, ◌<◌, ◌≤◌}
-use mathlib.Core.Path.{◌≡◌, sym, ap, ◌∙◌}
-use native.Mathlib.Nat.{mod-lt, one-mul}
-use native.Mathlib.Omega.{arith}
-use lib.Pow.{high, low, field, mod-mod-pow, mod-pow-add, shr-shr, pow_pos, shl_exact}
+use Rattle.std.proofs.Common.{ℕ, ◌+◌, ◌-◌, ◌*◌, ◌/◌, ◌%◌, ◌^◌, ◌<◌, ◌≤◌, ◌≡◌, sym, ap, ◌∙◌, mod-lt, one-mul, arith, shr-shr, pow_pos, shl_exact}
+use lib.Pow.{high, low, field, mod-mod-pow, mod-pow-add}
 use Rattle.words.specs.declared.Word.{Word}
 use Rattle.words.specs.Word.{slice, value, bits}
 
@@ -57,9 +54,6 @@ one_shl k w h = shl_exact 1 k w (omega arith) (omega arith) ∙ one-mul (2 ^ k)
 pub masked : (n k w x : ℕ) → k < w → x ≡ n % 2 ^ k → (n % ((1 * 2 ^ k) % 2 ^ w) ≡ x)
     × (n % ((1 * 2 ^ k) % 2 ^ w) < 2 ^ k)
 masked n k w x h e = rw (one_shl k w h) (sym e, mod-lt n (pow_pos k))
-
-pub shl_pos : (k w : ℕ) → k < w → 0 < (1 * 2 ^ k) % 2 ^ w
-shl_pos k w h = rw (one_shl k w h) (pow_pos k)
 
 -- A range that lies in both halves is put together of its parts.
 pub both_halves : (h l : ℕ) (w : Word) → l ≤ 64 → 64 ≤ h → bits h l w ≡ bits h 64 w * 2 ^ (64 - l) + bits 63 l w

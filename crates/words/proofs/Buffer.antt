@@ -1,13 +1,9 @@
 -- Laws of buffers: what is written over what, and a tail that was lent on.
 -- Assumes nothing.
-use Prim.Native.Nat.{ℕ, ◌-◌, ◌≤◌}
-use mathlib.Core.Path.{◌≡◌, ap, ◌∙◌}
-use mathlib.Core.List.{List, ◌++◌, append_assoc, append-nil}
-use native.Mathlib.Nat.{le_of_eq}
-use native.Mathlib.Omega.{arith}
+use Rattle.std.proofs.Common.{ℕ, ◌-◌, ◌≤◌, ◌≡◌, ap, ◌∙◌, List, ◌++◌, append_assoc, append-nil, le_of_eq, arith, length, take, drop, length-append}
+use Rattle.std.proofs.Common.{length-drop, drop_of_length-le, take_all, drop-drop}
 use borrow.Rule.Slice.PartMut.{put_mid, mid_of}
-use lib.ListN.{length, take, drop, length-append, length-drop, drop_of_length-le}
-use lib.Seq.{take_all, take-append_seam, drop-append_seam, drop-drop}
+use lib.Seq.{take-append_seam, drop-append_seam}
 use Rattle.words.specs.Lists.{over}
 
 -- The part `&s[a..]` of a list, and the whole with another tail in its place.

@@ -1,17 +1,9 @@
 -- A word as it is loaded: the number that ten bytes are, byte by byte.
 -- Assumes nothing.
-use Prim.Native.Nat.{ℕ, zero, suc, ◌+◌, ◌*◌, ◌<◌, ◌≤◌, ◌^◌}
-use mathlib.Core.Path.{◌≡◌, refl, ap, ◌∙◌}
-use mathlib.Core.List.{List, [], ◌∷◌}
-use native.Mathlib.Nat.{le_of_eq}
-use native.Mathlib.Omega.{arith}
-use lib.Dec.{lit<}
-use lib.ListN.{length, get_or, take, drop, length-drop, drop_of_length-le}
-use lib.Seq.{length-take-le, get_or-take, get_or-drop}
+use Rattle.std.proofs.Common.{ℕ, zero, suc, ◌+◌, ◌*◌, ◌<◌, ◌≤◌, ◌^◌, ◌≡◌, refl, ap, ◌∙◌, List, [], ◌∷◌, le_of_eq, arith, lit<, length, get_or, take, drop}
+use Rattle.std.proofs.Common.{length-drop, drop_of_length-le, length-take-le, get_or-take, get_or-drop}
 use Rattle.words.specs.declared.Word.{Word}
-use borrow.Author.Tests.{eq-eqb, ne_eqb}
-use Rattle.words.specs.declared.FromBuf.TheVariants.{Is, Refused}
-use Rattle.words.specs.Word.{number, word_of, value, id_of, bits, FromBufPost}
+use Rattle.words.specs.Word.{number, word_of, value, id_of, bits}
 
 -- The number of the bytes from a place on is that byte and 256 times those after it.
 peel : (b : List ℕ) (i : ℕ) → number (drop i b) ≡ get_or b i 0 + 256 * number (drop (suc i) b)
@@ -37,6 +29,12 @@ unfolding number
 number_ten b e =
     let end : number (drop 10 b) ≡ 0 = ap number (drop_of_length-le b (le_of_eq e)) in
     omega (arith, peel b 0, peel b 1, peel b 2, peel b 3, peel b 4, peel b 5, peel b 6, peel b 7, peel b 8, peel b 9)
+
+pub number_eight : (b : List ℕ) → length b ≡ 8 → number b ≡ lower b
+unfolding number
+number_eight b e =
+    let end : number (drop 8 b) ≡ 0 = ap number (drop_of_length-le b (le_of_eq e)) in
+    omega (arith, peel b 0, peel b 1, peel b 2, peel b 3, peel b 4, peel b 5, peel b 6, peel b 7)
 
 -- What the code sums up is the word.
 pub loaded : (b : List ℕ) → length b ≡ 10 → (r : Word) → r.lo ≡ lower b → r.hi ≡ upper b → lower b < 2 ^ 64
@@ -77,11 +75,3 @@ id_at_lem b at h byte =
     id_byte (take 10 (drop at b)) long (cut 10 (drop at b) (λ i. rw (get_or-drop at b i 0) (byte (at + i))))
     ∙ get_or-take 10 (drop at b) 9 0 (lit< tt)
     ∙ get_or-drop at b 9 0
-
--- What a buffer is read as: a word where it has ten bytes, else refusal 1.
-pub read_ten : (b : List ℕ) {w : Word} → length b ≡ 10 → w ≡ word_of b → FromBufPost b (Is w)
-read_ten b e p =
-    record { answer = simp (eq-eqb _ _ e) (ap Is p); number = simp (eq-eqb _ _ e); value = simp (eq-eqb _ _ e) p }
-
-pub read_none : (b : List ℕ) → (length b ≡ 10 → ⊥) → FromBufPost b (Refused 1)
-read_none b e = record { answer = simp (ne_eqb _ _ e); number = simp (ne_eqb _ _ e); value = simp (ne_eqb _ _ e) }

@@ -1,11 +1,8 @@
 -- The worst lane from the low and the high bits of all lanes at once, for any number of lanes.
 -- Assumes nothing.
-use Prim.Native.Nat.{ℕ, zero, suc, min, max, ◌+◌, ◌-◌, ◌*◌, ◌/◌, ◌%◌, ◌^◌, ◌≤◌, ◌<◌}
-use mathlib.Core.Path.{◌≡◌, refl, sym, ap, ap₂, ◌∙◌}
-use native.Mathlib.Omega.{arith}
-use lib.Bits.{bit_and, and_step, and_zero_r}
-use lib.Pow.{shr-shr}
-use borrow.Author.Tests.{lt-ltb}
+use Rattle.std.proofs.Common.{ℕ, zero, suc, min, max, ◌+◌, ◌-◌, ◌*◌, ◌/◌, ◌%◌, ◌^◌, ◌≤◌, ◌<◌, ◌≡◌, refl, sym, ap, ap₂, ◌∙◌, arith, bit_and, shr-shr}
+use Rattle.std.proofs.Common.{lt-ltb}
+use lib.Bits.{and_step, and_zero_r}
 use Rattle.words.specs.declared.Word.{Word}
 use Rattle.words.specs.Lanes.{lanes}
 use Rattle.words.specs.LaneStatus.{lane_status, worst_below}

@@ -1,6 +1,6 @@
 -- Active lanes. 01, "Words": "28 lanes"; "Easy to get wrong": "Lanes above 27 are never active." 02, ticket 4: "a lane that can't be".
 -- Assumes nothing.
-use Rattle.std.specs.Prelude.{ℕ, ◌/◌, ◌%◌, ◌^◌, Bool, true, false, cond, ◌&&◌, ltb, eqb}
+use Rattle.std.specs.Prelude.{ℕ, ◌≡◌, ◌/◌, ◌%◌, ◌^◌, Bool, true, false, cond, ◌&&◌, ltb, eqb}
 use Rattle.words.specs.declared.lanes.LaneAnswer.{LaneAnswer}
 use Rattle.words.specs.declared.lanes.LaneAnswer.TheVariants as L
 
@@ -23,6 +23,10 @@ abbrev pub lane_answer_number : LaneAnswer → ℕ
 lane_answer_number L.Active = 0
 lane_answer_number L.NotActive = 1
 lane_answer_number L.NoSuchLane = 2
+
+-- What a conversion to a number gives.
+abbrev pub gives_number : LaneAnswer → ℕ → Type 0
+gives_number a n = n ≡ lane_answer_number a
 
 abbrev pub is_active : LaneAnswer → Bool
 is_active L.Active = true

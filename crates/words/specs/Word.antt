@@ -1,9 +1,10 @@
 -- Document 01, "Words": what a word of ten bytes is, and which bits of it a field is.
 -- Assumes nothing.
-use Rattle.std.specs.Prelude.{ℕ, ◌+◌, ◌-◌, ◌*◌, ◌/◌, ◌%◌, ◌^◌, ◌≡◌, Bool, cond, List, [], ◌∷◌, eqb, length}
+use Rattle.std.specs.Prelude.{ℕ, ◌+◌, ◌-◌, ◌*◌, ◌/◌, ◌%◌, ◌^◌, ◌≡◌, Bool, cond, List, [], ◌∷◌, eqb, length, Result, Ok, Err}
 use Rattle.words.specs.declared.Word.{Word}
-use Rattle.words.specs.declared.FromBuf.{FromBuf}
-use Rattle.words.specs.declared.FromBuf.TheVariants.{Is, Refused}
+use Rattle.refusals.specs.declared.Refusal.{Refusal}
+use Rattle.refusals.specs.declared.Refusal.TheVariants as R
+use Rattle.refusals.specs.Refusals.{code}
 
 -- "Ten bytes": the bytes of a word.
 abbrev pub word_bytes : ℕ
@@ -39,19 +40,15 @@ abbrev pub id_of : Word → ℕ
 id_of = bits 79 72
 
 -- Refusal 1: "word not 10 bytes".
-abbrev pub from_buf : List ℕ → FromBuf
-from_buf bytes = cond (eqb (length bytes) word_bytes) (Is (word_of bytes)) (Refused 1)
+abbrev pub from_buf : List ℕ → Result Word Refusal
+from_buf bytes = cond (eqb (length bytes) word_bytes) (Ok (word_of bytes)) (Err R.Size)
 
--- "Where an answer is an enum, a definition gives this paper's number and values for each of its cases": the refusal, or 0 and the word.
-abbrev pub refusal_of : FromBuf → ℕ
-refusal_of (Is w) = 0
-refusal_of (Refused n) = n
+-- The word of an answer, where it is one.
+abbrev pub word_in : Result Word Refusal → Word
+word_in (Ok w) = w
+word_in (Err r) = record { lo = 0; hi = 0 }
 
-abbrev pub word_in : FromBuf → Word
-word_in (Is w) = w
-word_in (Refused n) = record { lo = 0; hi = 0 }
-
-pub record FromBufPost (bytes : List ℕ) (r : FromBuf) : Type 0 where
+pub record FromBufPost (bytes : List ℕ) (r : Result Word Refusal) : Type 0 where
   pub answer : r ≡ from_buf bytes
-  pub number : refusal_of r ≡ cond (eqb (length bytes) word_bytes) 0 1
+  pub number : code r ≡ cond (eqb (length bytes) word_bytes) 0 1
   pub value : word_in r ≡ cond (eqb (length bytes) word_bytes) (word_of bytes) (record { lo = 0; hi = 0 })

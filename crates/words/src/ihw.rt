@@ -1,8 +1,9 @@
 // The IHW: ITS header word. 01, "Words" (added).
 ghost use Rattle.std.specs.Prelude.{◌≡◌};
-ghost use Rattle.words.specs.Ihw.{active_lanes, ihw_answer, reserved, is_reserved0};
+ghost use Rattle.words.specs.Ihw.{active_lanes, ihw_answer, reserved, ihw_id, is_reserved0};
 
 use crate::Word;
+use crate::status_word::StatusWord;
 
 #[derive(Clone, Copy)]
 pub struct Ihw {
@@ -17,12 +18,10 @@ pub struct IhwAnswer {
 }
 
 impl Ihw {
-    pub const ID: u8 = 0xE0;
-
     pub fn active_lanes(self) -> u32
         ensures { result ≡ active_lanes self.word }
     {
-        self.word.low(27, 0) as u32
+        self.word.bits(27, 0) as u32
     }
 
     pub fn read(self) -> IhwAnswer
@@ -30,22 +29,32 @@ impl Ihw {
     {
         let active = self.active_lanes();
         IhwAnswer {
-            active: active,
-            on: u32::count_ones(active),
+            active,
+            on: active.count_ones(),
         }
     }
 
-    // Bits 71:28 lie in both halves.
     pub fn reserved(self) -> u64
         ensures { result ≡ reserved self.word }
     {
-        self.word.low(63, 28) + 0x10_0000_0000 * (self.word.high(71, 64) as u64)
+        self.word.bits(71, 28)
+    }
+}
+
+impl StatusWord for Ihw {
+    ghost ID = { ihw_id };
+
+    ghost word = { λ w. w.word };
+
+    ghost clean = { is_reserved0 };
+
+    const ID: u8 = 0xE0;
+
+    fn word(self) -> Word {
+        self.word
     }
 
-    pub fn is_reserved_0(self) -> bool
-        ensures { result ≡ is_reserved0 self.word }
-    {
-        let r = self.reserved();
-        r == 0
+    fn is_reserved_0(self) -> bool {
+        self.reserved() == 0
     }
 }

@@ -12,7 +12,7 @@ const LOW_BITS: u64 = 0x55_5555_5555_5555;
 pub fn ddw0_tdt_lane_status_27_0(word: Word) -> u64
     ensures { result ≡ lane_status27to0 word }
 {
-    word.low(55, 0)
+    word.bits(55, 0)
 }
 
 // The status of a lane of a TDT or DDW0: 0 good, 1 warning, 2 error, 3 fatal. A lane above 27 has none: 0.
@@ -20,7 +20,7 @@ pub fn ddw0_tdt_lane_status(word: Word, lane: u8) -> u8
     ensures { result ≡ lane_status lane word }
 {
     if lane < LANES {
-        word.low(2 * lane + 1, 2 * lane) as u8
+        word.bits(2 * lane + 1, 2 * lane) as u8
     } else {
         0
     }

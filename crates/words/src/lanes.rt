@@ -1,6 +1,6 @@
 // Active lanes, and lanes that can't be. 01, "Easy to get wrong": "Lanes above 27 are never active."; 02, ticket 4.
 ghost use Rattle.std.specs.Prelude.{◌≡◌};
-ghost use Rattle.words.specs.Lanes.{is_lane_active, last_lane, lane_answer, lane_answer_number, is_active, is_missing};
+ghost use Rattle.words.specs.Lanes.{is_lane_active, last_lane, lane_answer, gives_number, is_active, is_missing};
 
 // Lanes of a link: those that a status word tells of and an IHW switches on.
 pub const LANES: u8 = 28;
@@ -9,52 +9,38 @@ pub const LANES: u8 = 28;
 pub fn is_lane_active(lane: u8, active_lanes: u32) -> bool
     ensures { result ≡ is_lane_active lane active_lanes }
 {
-    if lane < LANES {
-        (active_lanes >> lane) % 2 == 1
-    } else {
-        false
-    }
+    lane < LANES && (active_lanes >> lane) % 2 == 1
 }
 
 // What is answered to the question whether a lane is active.
-#[derive(Clone, Copy)]
+#[derive(Clone, Copy, Debug, PartialEq, Eq)]
 pub enum LaneAnswer {
-    Active,
-    NotActive,
+    Active = 0,
+    NotActive = 1,
     // The lane is above its barrel's last: it has no cable.
-    NoSuchLane,
+    NoSuchLane = 2,
+}
+
+// The number of an answer, for those who get no enum.
+impl From<LaneAnswer> for u8 {
+    ghost from_gives = { gives_number };
+
+    fn from(answer: LaneAnswer) -> u8 {
+        answer as u8
+    }
 }
 
 impl LaneAnswer {
-    // The number of an answer, for those who get no enum.
-    pub fn number(self) -> u8
-        ensures { result ≡ lane_answer_number self }
-    {
-        match self {
-            LaneAnswer::Active => 0,
-            LaneAnswer::NotActive => 1,
-            LaneAnswer::NoSuchLane => 2,
-        }
-    }
-
     pub fn is_active(self) -> bool
         ensures { result ≡ is_active self }
     {
-        match self {
-            LaneAnswer::Active => true,
-            LaneAnswer::NotActive => false,
-            LaneAnswer::NoSuchLane => false,
-        }
+        self == LaneAnswer::Active
     }
 
     pub fn is_missing(self) -> bool
         ensures { result ≡ is_missing self }
     {
-        match self {
-            LaneAnswer::Active => false,
-            LaneAnswer::NotActive => false,
-            LaneAnswer::NoSuchLane => true,
-        }
+        self == LaneAnswer::NoSuchLane
     }
 }
 
@@ -69,12 +55,9 @@ fn last_lane(inner: bool) -> u8
 pub fn lane_answer(inner: bool, lane: u8, active_lanes: u32) -> LaneAnswer
     ensures { result ≡ lane_answer inner lane active_lanes }
 {
-    let last = last_lane(inner);
-    let active = is_lane_active(lane, active_lanes);
-    if last < lane {
-        return LaneAnswer::NoSuchLane;
-    }
-    if active {
+    if last_lane(inner) < lane {
+        LaneAnswer::NoSuchLane
+    } else if is_lane_active(lane, active_lanes) {
         LaneAnswer::Active
     } else {
         LaneAnswer::NotActive

@@ -5,12 +5,15 @@
 ghost use Rattle.std.specs.Prelude.{◌≡◌, ◌+◌, ◌-◌, ◌^◌, ◌<◌, ◌≤◌, length, take, drop};
 ghost use Rattle.words.specs.Word.{word_bytes, word_of, FromBufPost, id_of, bits, is_set};
 
+use refusals::Refusal;
+
 pub mod cdw;
 pub mod ddw;
 pub mod ihw;
 pub mod lane_status;
 pub mod lanes;
 pub mod little_endian;
+pub mod status_word;
 pub mod tdh;
 pub mod tdt;
 
@@ -21,46 +24,20 @@ pub struct Word {
     pub hi: u16,
 }
 
-// What a buffer is read as: a word, or the number of the refusal.
-#[derive(Clone, Copy)]
-pub enum FromBuf {
-    Is(Word),
-    Refused(u8),
-}
-
-// A byte as a wide number, with its bound.
-pub(crate) fn wide(b: u8) -> u64
-    ensures value { result ≡ b }
-    ensures upper_bound { result < 2 ^ 8 }
-{
-    b as u64
-}
-
 impl Word {
     // Bytes of a word, and the one that holds its id.
     pub const SIZE: usize = 10;
 
     pub const ID_BYTE: usize = 9;
 
-    // Refusal 1: a word is not ten bytes.
-    pub const REFUSED_SIZE: u8 = 1;
-
     // The word that ten bytes are. An array carries its length, so nothing is asked.
     pub fn load(bytes: [u8; Word::SIZE]) -> Word
         ensures { result ≡ word_of bytes }
     {
-        let lo = wide(bytes[0])
-            + 0x100 * wide(bytes[1])
-            + 0x1_0000 * wide(bytes[2])
-            + 0x100_0000 * wide(bytes[3])
-            + 0x1_0000_0000 * wide(bytes[4])
-            + 0x100_0000_0000 * wide(bytes[5])
-            + 0x1_0000_0000_0000 * wide(bytes[6])
-            + 0x100_0000_0000_0000 * wide(bytes[7]);
-        let hi = wide(bytes[8]) + 0x100 * wide(bytes[9]);
+        let [b0, b1, b2, b3, b4, b5, b6, b7, b8, b9] = bytes;
         Word {
-            lo: lo,
-            hi: hi as u16,
+            lo: u64::from_le_bytes([b0, b1, b2, b3, b4, b5, b6, b7]),
+            hi: u16::from_le_bytes([b8, b9]),
         }
     }
 
@@ -69,68 +46,51 @@ impl Word {
         requires { at + word_bytes ≤ length bytes.now }
         ensures { result ≡ word_of (take word_bytes (drop at bytes.now)) }
     {
-        Word::load([
-            bytes[at],
-            bytes[at + 1],
-            bytes[at + 2],
-            bytes[at + 3],
-            bytes[at + 4],
-            bytes[at + 5],
-            bytes[at + 6],
-            bytes[at + 7],
-            bytes[at + 8],
-            bytes[at + 9],
-        ])
+        Word::load(*bytes[at..at + Word::SIZE].first_chunk().unwrap())
     }
 
     // The word that a buffer is, or refusal 1 where it is not ten bytes.
-    pub fn from_buf(buf: &[u8]) -> FromBuf
+    pub fn from_buf(buf: &[u8]) -> Result<Word, Refusal>
         ensures { FromBufPost buf.now result }
     {
-        if buf.len() != Word::SIZE {
-            return FromBuf::Refused(Word::REFUSED_SIZE);
+        match buf.try_into() {
+            Ok(bytes) => Ok(Word::load(bytes)),
+            Err(_) => Err(Refusal::Size),
         }
-        FromBuf::Is(Word::load_at(buf, 0))
     }
 
     // The id, byte 9.
     pub fn id(self) -> u8
         ensures { result ≡ id_of self }
     {
-        self.high(79, 72) as u8
+        self.bits(79, 72) as u8
     }
 
-    // Bits h:l of the lower half.
-    fn low(self, h: u8, l: u8) -> u64
-        requires { (l ≤ h) × ((h - l < 63) × (h < 64)) }
+    // Bits h:l, as 01 writes them.
+    fn bits(self, h: u8, l: u8) -> u64
+        requires { (l ≤ h) × ((h - l < 63) × (h < 80)) }
         ensures value { result ≡ bits h l self }
         ensures upper_bound { result < 2 ^ (h + 1 - l) }
     {
-        (self.lo >> l) % (1 << (h + 1 - l))
+        let number = (u128::from(self.hi) << 64) + u128::from(self.lo);
+        ((number >> l) % (1 << (h + 1 - l))) as u64
     }
 
-    // Bits h:l of the upper half.
-    fn high(self, h: u8, l: u8) -> u16
-        requires { (64 ≤ l) × ((l ≤ h) × ((h - l < 15) × (h < 80))) }
-        ensures value { result ≡ bits h l self }
-        ensures upper_bound { result < 2 ^ (h + 1 - l) }
-    {
-        (self.hi >> (l - 64)) % (1 << (h + 1 - l))
-    }
-
-    // Whether a bit of the lower half is set.
-    fn low_bit(self, n: u8) -> bool
-        requires { n < 64 }
+    // Whether a bit is set.
+    fn bit(self, n: u8) -> bool
+        requires { n < 80 }
         ensures { result ≡ is_set n self }
     {
-        self.low(n, n) == 1
+        self.bits(n, n) == 1
     }
+}
 
-    // Whether a bit of the upper half is set.
-    fn high_bit(self, n: u8) -> bool
-        requires { (64 ≤ n) × (n < 80) }
-        ensures { result ≡ is_set n self }
-    {
-        self.high(n, n) == 1
+impl TryFrom<&[u8]> for Word {
+    type Error = Refusal;
+
+    ghost try_from_gives = { λ buf r. FromBufPost buf.now r };
+
+    fn try_from(buf: &[u8]) -> Result<Word, Refusal> {
+        Word::from_buf(buf)
     }
 }

@@ -1,12 +1,32 @@
 -- Bytes and the number that they are, in both directions.
 -- Assumes nothing.
-use Prim.Native.Nat.{ℕ, zero, suc, ◌+◌, ◌*◌, ◌/◌, ◌%◌, ◌^◌, ◌<◌}
-use mathlib.Core.Path.{◌≡◌, refl, sym, ap, ap₂, ◌∙◌}
-use mathlib.Core.List.{List, [], ◌∷◌, ◌++◌}
-use native.Mathlib.Nat.{mul_assoc}
-use native.Mathlib.Omega.{arith}
-use lib.ListN.{length, get_or}
-use lib.Pow.{mod-pow-add, pow-add}
+use Rattle.std.proofs.Common.{
+  ℕ,
+  zero,
+  suc,
+  ◌+◌,
+  ◌*◌,
+  ◌/◌,
+  ◌%◌,
+  ◌^◌,
+  ◌<◌,
+  ◌≡◌,
+  refl,
+  sym,
+  ap,
+  ap₂,
+  ◌∙◌,
+  List,
+  [],
+  ◌∷◌,
+  ◌++◌,
+  mul_assoc,
+  length,
+  get_or,
+  pow-add,
+  arith,
+}
+use lib.Pow.{mod-pow-add}
 use Rattle.words.specs.Word.{number}
 use Rattle.writer.specs.Write.{bytes_of}
 

@@ -1,15 +1,13 @@
 -- Uniqueness: the contracts of the writer determine the answer and the slice.
 -- Assumes nothing.
-use mathlib.Core.Path.{◌≡◌}
-use mathlib.Core.List.{List}
-use Prim.Native.Nat.{ℕ}
-use mathlib.Core.Bool.{Bool}
+use Rattle.std.proofs.Common.{ℕ, ◌≡◌, Bool, List, Result}
+use Rattle.refusals.specs.declared.Refusal.{Refusal}
+use Rattle.words.specs.declared.Word.{Word}
 use Rattle.words.proofs.Unique.{unique}
 use Rattle.writer.specs.declared.Fields.{Fields}
-use Rattle.writer.specs.declared.Packed.{Packed}
 use Rattle.writer.specs.Write.{PackPost, WritePost, Writes, WritesData}
 
-pub pack_unique : {f : Fields} {first second : Packed} → PackPost f first → PackPost f second → first ≡ second
+pub pack_unique : {f : Fields} {first second : Result Word Refusal} → PackPost f first → PackPost f second → first ≡ second
 pack_unique a b = unique a.answer b.answer
 
 pub written_unique : {fits : Bool} {bytes slice after after' : List ℕ} {r r' : ℕ} → WritePost fits bytes slice r after

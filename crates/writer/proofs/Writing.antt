@@ -1,26 +1,63 @@
 -- From fields to a word, from a word to its bytes, and what of it is refused.
 -- Assumes nothing.
-use Prim.Native.Nat.{ℕ, ◌+◌, ◌*◌, ◌/◌, ◌%◌, ◌^◌, ◌≤◌, ◌<◌}
-use mathlib.Core.Path.{◌≡◌, refl, sym, ap, ap₂, ◌∙◌, subst}
-use mathlib.Core.Bool.{Bool, true, false, cond, ◌&&◌, true≢false}
-use mathlib.Core.List.{List, [], ◌∷◌, ◌++◌, append-nil}
+use Rattle.std.proofs.Common.{
+  ℕ,
+  ◌+◌,
+  ◌-◌,
+  ◌*◌,
+  ◌/◌,
+  ◌%◌,
+  ◌^◌,
+  ◌≤◌,
+  ◌<◌,
+  ◌≡◌,
+  refl,
+  sym,
+  ap,
+  ap₂,
+  ◌∙◌,
+  subst,
+  Bool,
+  true,
+  false,
+  cond,
+  ◌&&◌,
+  ltb,
+  true≢false,
+  List,
+  [],
+  ◌∷◌,
+  ◌++◌,
+  append-nil,
+  length,
+  drop,
+  take_at,
+  length-append,
+  length-drop,
+  drop_of_length-le,
+  Option,
+  Some,
+  None,
+  ok_or,
+  Result,
+  Ok,
+  Err,
+  arith,
+}
 use native.Mathlib.Nat.{div-div-eq-div-mul}
-use native.Mathlib.Omega.{arith}
-use lib.Dec.{ltb}
-use mir.Val.{bool_byte}
 use borrow.Author.Tests.{lt-ltb, ltb-true, ltb-false, lt-leb, eq-eqb, ne_eqb}
+use borrow.Rule.Slice.PartMut.{put_mid}
+use Rattle.refusals.specs.declared.Refusal.{Refusal}
+use Rattle.refusals.specs.declared.Refusal.TheVariants.{Field}
+use Rattle.refusals.specs.Refusals.{code, number as refusal_number}
 use Rattle.words.proofs.Load.{whole}
-use lib.ListN.{length, length-append, drop_of_length-le}
-use lib.Seq.{sets, sets-eq}
 use Rattle.words.specs.declared.Word.{Word}
 use Rattle.words.specs.Word.{word_of, number, value, bits}
 use Rattle.data_ids.specs.DataIds.{is_data_id}
 use Rattle.writer.specs.declared.Fields.{Fields}
 use Rattle.writer.specs.declared.Fields.TheVariants as F
-use Rattle.writer.specs.declared.Packed.{Packed}
-use Rattle.writer.specs.declared.Packed.TheVariants.{Is, Refused}
 use Rattle.writer.specs.Layout.{put, fit}
-use Rattle.writer.specs.Write.{flag, fields_fit, number_of, written, word_from, packed, bytes_of, refusal_of, word_in, PackPost, Writes, WritesData, Bytes}
+use Rattle.writer.specs.Write.{fields_fit, number_of, written, word_from, fitted, packed, bytes_of, word_in, PackPost, Writes, WritesData, Bytes}
 use Rattle.writer.proofs.Bytes.{number_bytes, bytes_number, number_more, number_below, more_bytes}
 use Rattle.writer.proofs.Round.{value_written}
 
@@ -42,11 +79,23 @@ halves f w is low high =
     let hi : w.hi ≡ (word_from f).hi = omega arith in
     λ i. record { lo = lo i; hi = hi i }
 
+pub is_fitted : (f : Fields) (w : Word) → fields_fit f ≡ true → number_of f ≡ w.hi * 2 ^ 64 + w.lo → w.lo < 2 ^ 64
+    → w.hi < 2 ^ 16 → Some w ≡ fitted f
+is_fitted f w fits is low high = simp (fits, halves f w is low high)
+
+pub not_fitted : (f : Fields) → (fields_fit f ≡ true → ⊥) → None ≡ fitted f
+not_fitted f h = at (fields_fit f) refl
+  where
+    at : (b : Bool) → fields_fit f ≡ b → None ≡ fitted f
+    at true e = absurd (h e)
+    at false e = simp e
+
+-- The same of the word or refusal that is given.
 pub is_packed : (f : Fields) (w : Word) → fields_fit f ≡ true → number_of f ≡ w.hi * 2 ^ 64 + w.lo → w.lo < 2 ^ 64
-    → w.hi < 2 ^ 16 → Is w ≡ packed f
+    → w.hi < 2 ^ 16 → Ok w ≡ packed f
 is_packed f w fits is low high = simp (fits, halves f w is low high)
 
-pub not_packed : (f : Fields) → fields_fit f ≡ false → Refused 8 ≡ packed f
+pub not_packed : (f : Fields) → fields_fit f ≡ false → Err Field ≡ packed f
 not_packed f e = simp e
 
 -- The tests that the code of each kind makes are those of its layout.
@@ -109,11 +158,6 @@ data_fit i l h p = at (is_data_id i) refl
     at true e = simp (lt-ltb l (2 ^ 64) p, lt-ltb i 256 (data_byte i e), e, and_true)
     at false e = simp (e, and_false)
 
--- A flag as the code makes it a number.
-pub flag_number : (b : Bool) → bool_byte b ≡ flag b
-flag_number true = refl
-flag_number false = refl
-
 -- A data word's nine bytes, as they are read.
 pub data_low : (w : Word) → w.lo < 2 ^ 64 → w.lo ≡ bits 63 0 w
 unfolding bits
@@ -123,13 +167,14 @@ pub data_high : (w : Word) → w.lo < 2 ^ 64 → w.hi % 256 ≡ bits 71 64 w
 unfolding bits
 data_high w h = omega arith
 
--- Ten bytes that fill a slice, and that they are the word's.
-pub filled : (vs d : List ℕ) → length d ≡ length vs → sets d 0 vs ≡ vs
-filled vs d e =
-    sets-eq vs d 0 (omega arith) ∙ ap (λ (l : List ℕ). vs ++ l) (drop_of_length-le d past) ∙ append-nil vs
+-- The two parts of a slice of ten bytes, each filled, and that they are the word's bytes.
+pub filled : (lo hi d : List ℕ) → length lo ≡ 8 → length d ≡ 10
+    → put_mid 8 (length (lo ++ drop 8 d) - 8) (lo ++ drop 8 d) hi ≡ lo ++ hi
+filled lo hi d e h =
+    ap₂ ◌++◌ (take_at lo (drop 8 d) 8 e) (ap (λ (l : List ℕ). hi ++ l) (drop_of_length-le _ past) ∙ append-nil hi)
   where
-    past : length d ≤ 0 + length vs
-    past = omega arith
+    past : length (drop 8 (lo ++ drop 8 d)) ≤ length (lo ++ drop 8 d) - 8
+    past = simp length-drop (omega arith)
 
 abbrev pub ten_bytes : Word → List ℕ
 ten_bytes w =
@@ -138,7 +183,7 @@ ten_bytes w =
     ∷ w.lo / 0x1_0000_0000_0000 % 256
     ∷ w.lo / 0x100_0000_0000_0000 % 256
     ∷ w.hi % 256
-    ∷ w.hi / 256
+    ∷ w.hi / 256 % 256
     ∷ []
 
 pub ten : (w : Word) → w.lo < 2 ^ 64 → w.hi < 2 ^ 16 → ten_bytes w ≡ bytes_of 10 (value w)
@@ -152,43 +197,52 @@ ten w lo hi =
     same = ap₂ ◌∷◌
 
 -- What a packed word says of its fields, and what is then refused or written.
-pub packs : (f : Fields) {r : Packed} → r ≡ packed f → PackPost f r
-packs f {r} e =
-    record { answer = e; number = ap refusal_of e ∙ (at (fields_fit f)).0; value = ap word_in e ∙ (at (fields_fit f)).1 }
+pub packs : (f : Fields) {o : Option Word} {r : Result Word Refusal} → o ≡ fitted f → r ≡ ok_or o Field → PackPost f r
+packs f {r = r} q p = record { answer = is; number = ap code is ∙ (at (fields_fit f)).1.0; value = ap word_in is ∙ (at (fields_fit f)).1.1 }
   where
-    none : Word
-    none = record { lo = 0; hi = 0 }
+    no_word : Word
+    no_word = record { lo = 0; hi = 0 }
 
-    at : (b : Bool) → (refusal_of (cond b (Is (word_from f)) (Refused 8)) ≡ cond b 0 8)
-        × (word_in (cond b (Is (word_from f)) (Refused 8)) ≡ cond b (word_from f) none)
-    at true = (refl, refl)
-    at false = (refl, refl)
+    at : (b : Bool) → (ok_or (cond b (Some (word_from f)) None) Field ≡ cond b (Ok (word_from f)) (Err Field))
+        × ((code (cond b (Ok (word_from f)) (Err Field)) ≡ cond b 0 8)
+        × (word_in (cond b (Ok (word_from f)) (Err Field)) ≡ cond b (word_from f) no_word))
+    at true = (refl, (refl, refl))
+    at false = (refl, (refl, refl))
 
-apart : (n : ℕ) (w : Word) → Refused n ≡ Is w → ⊥
-apart n w e = let z : ◌≡◌ {A = ℕ} 0 1 = cc in omega arith
+    is : r ≡ packed f
+    is = p ∙ ap (λ (o : Option Word). ok_or o Field) q ∙ (at (fields_fit f)).0
 
-pub refused_fields : (f : Fields) {r : Packed} (n : ℕ) (slice : List ℕ) → PackPost f r → r ≡ Refused n
-    → Writes f slice 8 slice
-refused_fields f {r} n slice p is = at (fields_fit f) refl
+apart : (r : Refusal) (w : Word) → Err r ≡ Ok w → ⊥
+apart r w e = let z : ◌≡◌ {A = ℕ} 0 1 = cc in omega arith
+
+-- A refusal that `?` hands on has the number that it had.
+pub passed_on : (f : Fields) {slice : List ℕ} {x : Refusal} (r : Result Unit Refusal) → r ≡ Err x → Writes f slice (refusal_number x) slice
+    → Writes f slice (code r) slice
+passed_on f {slice} r e w = subst (λ (n : ℕ). Writes f slice n slice) (ap code (sym e)) w
+
+pub refused_fields : (f : Fields) {r : Result Word Refusal} (x : Refusal) (slice : List ℕ) → PackPost f r → r ≡ Err x
+    → Writes f slice (refusal_number x) slice
+refused_fields f {r} x slice p is = at (fields_fit f) refl
   where
-    at : (b : Bool) → fields_fit f ≡ b → Writes f slice 8 slice
-    at true e = absurd (apart n (word_from f) (sym is ∙ p.answer ∙ simp e))
-    at false e = record { answer = simp e; slice_is = simp e }
+    at : (b : Bool) → fields_fit f ≡ b → Writes f slice (refusal_number x) slice
+    at true e = absurd (apart x (word_from f) (sym is ∙ p.answer ∙ simp e))
+    at false e =
+        let n : refusal_number x ≡ 8 = ap code (sym is) ∙ p.number ∙ simp e in record { answer = n ∙ simp e; slice_is = simp e }
 
-fields_fit_lem : (f : Fields) {r : Packed} (w : Word) → PackPost f r → r ≡ Is w → (fields_fit f ≡ true) × (w ≡ word_from f)
+fields_fit_lem : (f : Fields) {r : Result Word Refusal} (w : Word) → PackPost f r → r ≡ Ok w → (fields_fit f ≡ true) × (w ≡ word_from f)
 fields_fit_lem f {r} w p is = at (fields_fit f) refl
   where
     at : (b : Bool) → fields_fit f ≡ b → (fields_fit f ≡ true) × (w ≡ word_from f)
-    at true e = let same : Is w ≡ Is (word_from f) = sym is ∙ p.answer ∙ simp e in (e, cc)
-    at false e = absurd (apart 8 w (sym (sym is ∙ p.answer ∙ simp e)))
+    at true e = let same : Ok w ≡ Ok (word_from f) = sym is ∙ p.answer ∙ simp e in (e, cc)
+    at false e = absurd (apart Field w (sym (sym is ∙ p.answer ∙ simp e)))
 
-pub refused_length : (f : Fields) {r : Packed} (w : Word) (slice : List ℕ) → PackPost f r → r ≡ Is w
+pub refused_length : (f : Fields) {r : Result Word Refusal} (w : Word) (slice : List ℕ) → PackPost f r → r ≡ Ok w
     → (length slice ≡ 10 → ⊥) → Writes f slice 1 slice
 refused_length f w slice p is h =
     let fits = (fields_fit_lem f w p is).0 in
     record { answer = simp (fits, ne_eqb _ _ h); slice_is = simp (fits, ne_eqb _ _ h) }
 
-pub wrote : (f : Fields) {r : Packed} (w : Word) (slice : List ℕ) {after : List ℕ} → PackPost f r → r ≡ Is w
+pub wrote : (f : Fields) {r : Result Word Refusal} (w : Word) (slice : List ℕ) {after : List ℕ} → PackPost f r → r ≡ Ok w
     → length slice ≡ 10 → after ≡ bytes_of 10 (value w)
     → Writes f slice 0 after
 unfolding written word_from

@@ -1,6 +1,34 @@
 -- 02, ticket 1: what is written from fields into a lent slice, when it is refused, and what is read back.
 -- Assumes nothing.
-use Rattle.std.specs.Prelude.{ℕ, zero, suc, ◌/◌, ◌%◌, ◌<◌, ◌≡◌, Bool, true, cond, ◌&&◌, List, [], ◌∷◌, ◌++◌, eqb, length, get_or}
+use Rattle.std.specs.Prelude.{
+  ℕ,
+  zero,
+  suc,
+  ◌/◌,
+  ◌%◌,
+  ◌<◌,
+  ◌≡◌,
+  Bool,
+  true,
+  cond,
+  ◌&&◌,
+  List,
+  [],
+  ◌∷◌,
+  ◌++◌,
+  eqb,
+  length,
+  get_or,
+  Option,
+  Some,
+  None,
+  Result,
+  Ok,
+  Err,
+}
+use Rattle.refusals.specs.declared.Refusal.{Refusal}
+use Rattle.refusals.specs.declared.Refusal.TheVariants.{Field}
+use Rattle.refusals.specs.Refusals.{code}
 use Rattle.words.specs.declared.Word.{Word}
 use Rattle.words.specs.Word.{word_bytes, word_of, bits, id_of}
 use Rattle.words.specs.Tdh as Tdh
@@ -14,8 +42,6 @@ use Rattle.writer.specs.declared.WordKind.{WordKind}
 use Rattle.writer.specs.declared.WordKind.TheVariants as K
 use Rattle.writer.specs.declared.Fields.{Fields}
 use Rattle.writer.specs.declared.Fields.TheVariants as F
-use Rattle.writer.specs.declared.Packed.{Packed}
-use Rattle.writer.specs.declared.Packed.TheVariants.{Is, Refused}
 use Rattle.writer.specs.Layout.{layout, put, fit}
 
 abbrev pub kind_of : Fields → WordKind
@@ -98,21 +124,21 @@ refused_field = 8
 abbrev pub refused_size : ℕ
 refused_size = 1
 
--- The word of fields, or refusal 8; its number, and its value: the word, or zeros.
-abbrev pub packed : Fields → Packed
-packed f = cond (fields_fit f) (Is (word_from f)) (Refused refused_field)
+-- The word of fields that fit.
+abbrev pub fitted : Fields → Option Word
+fitted f = cond (fields_fit f) (Some (word_from f)) None
 
-abbrev pub refusal_of : Packed → ℕ
-refusal_of (Is w) = 0
-refusal_of (Refused n) = n
+-- The word of fields, or refusal 8; its number (`code`), and its value: the word, or zeros.
+abbrev pub packed : Fields → Result Word Refusal
+packed f = cond (fields_fit f) (Ok (word_from f)) (Err Field)
 
-abbrev pub word_in : Packed → Word
-word_in (Is w) = w
-word_in (Refused n) = record { lo = 0; hi = 0 }
+abbrev pub word_in : Result Word Refusal → Word
+word_in (Ok w) = w
+word_in (Err r) = record { lo = 0; hi = 0 }
 
-pub record PackPost (f : Fields) (r : Packed) : Type 0 where
+pub record PackPost (f : Fields) (r : Result Word Refusal) : Type 0 where
   pub answer : r ≡ packed f
-  pub number : refusal_of r ≡ cond (fields_fit f) 0 refused_field
+  pub number : code r ≡ cond (fields_fit f) 0 refused_field
   pub value : word_in r ≡ cond (fields_fit f) (word_from f) (record { lo = 0; hi = 0 })
 
 -- What is asked, before anything is written: first whether all fits, then the length of the slice.

@@ -2,16 +2,15 @@
 #![tactic(auto)]
 
 ghost use Rattle.std.specs.Prelude.{◌≡◌, [], ◌∷◌, ◌++◌, length};
-ghost use Rattle.writer.specs.Write.{bytes_of, data_bytes, fields_in, PackPost, Writes, WritesData};
+ghost use Rattle.writer.specs.Write.{bytes_of, data_bytes, fields_in, fitted, PackPost, Writes, WritesData};
+ghost use Rattle.refusals.specs.Refusals.{code};
 ghost use Rattle.words.specs.Word.{word_bytes, word_of, value};
 
+use refusals::Refusal;
 use words::Word;
 
 mod packing;
 mod reading;
-
-// Refusal 8: a field is wider than its bits, or a data word's id is no data id.
-pub const REFUSED_FIELD: u8 = 8;
 
 // The bytes of a data word before its id.
 pub const DATA_BYTES: usize = 9;
@@ -82,16 +81,9 @@ pub fn read(kind: WordKind, word: Word) -> Fields
     }
 }
 
-// What fields are packed as: a word, or the number of the refusal.
-#[derive(Clone, Copy)]
-pub enum Packed {
-    Is(Word),
-    Refused(u8),
-}
-
-// The word that fields are, or refusal 8.
-pub fn pack(fields: Fields) -> Packed
-    ensures { PackPost fields result }
+// The word that fields are, where each of them fits.
+fn word_of(fields: Fields) -> Option<Word>
+    ensures { result ≡ fitted fields }
 {
     match fields {
         Fields::Ihw { active_lanes } => packing::ihw(active_lanes),
@@ -143,35 +135,33 @@ pub fn pack(fields: Fields) -> Packed
     }
 }
 
+// The word that fields are, or refusal 8: a field is wider than its bits, or a data word's id is no data id.
+#[tactic(auto, using(crate::proofs::Writing::packs))]
+pub fn pack(fields: Fields) -> Result<Word, Refusal>
+    ensures { PackPost fields result }
+{
+    word_of(fields).ok_or(Refusal::Field)
+}
+
 // The ten bytes of a word.
 fn store(word: Word, out: &mut [u8])
     requires { length out.old ≡ word_bytes }
     ensures { out.new ≡ bytes_of word_bytes (value word) }
 {
-    out[0] = (word.lo % 0x100) as u8;
-    out[1] = (word.lo / 0x100 % 0x100) as u8;
-    out[2] = (word.lo / 0x1_0000 % 0x100) as u8;
-    out[3] = (word.lo / 0x100_0000 % 0x100) as u8;
-    out[4] = (word.lo / 0x1_0000_0000 % 0x100) as u8;
-    out[5] = (word.lo / 0x100_0000_0000 % 0x100) as u8;
-    out[6] = (word.lo / 0x1_0000_0000_0000 % 0x100) as u8;
-    out[7] = (word.lo / 0x100_0000_0000_0000 % 0x100) as u8;
-    out[8] = (word.hi % 0x100) as u8;
-    out[9] = (word.hi / 0x100) as u8;
+    out[..8].copy_from_slice(&word.lo.to_le_bytes());
+    out[8..].copy_from_slice(&word.hi.to_le_bytes());
 }
 
-// The ten bytes of a word from its fields, into a slice of ten bytes. Answers 0, 8 or 1, and refused leaves the slice as it was.
-pub fn write(fields: Fields, out: &mut [u8]) -> u8
-    ensures { Writes fields out.old result out.new }
+// The ten bytes of a word from its fields, into a slice of ten bytes. Refused, with 8 before 1, it leaves the slice as it was.
+pub fn write(fields: Fields, out: &mut [u8]) -> Result<(), Refusal>
+    ensures { Writes fields out.old (code result) out.new }
 {
-    let Packed::Is(word) = pack(fields) else {
-        return REFUSED_FIELD;
-    };
+    let word = pack(fields)?;
     if out.len() != Word::SIZE {
-        return Word::REFUSED_SIZE;
+        return Err(Refusal::Size);
     }
     store(word, out);
-    0
+    Ok(())
 }
 
 // The nine bytes of a data word as a word whose id is still 0.
@@ -179,26 +169,25 @@ fn nine(bytes: &[u8]) -> Word
     requires { length bytes.now ≡ data_bytes }
     ensures { result ≡ word_of (bytes.now ++ (0 ∷ [])) }
 {
-    Word::load([
-        bytes[0], bytes[1], bytes[2], bytes[3], bytes[4], bytes[5], bytes[6], bytes[7], bytes[8], 0,
-    ])
+    let mut ten = [0; Word::SIZE];
+    ten[..DATA_BYTES].copy_from_slice(bytes);
+    Word::load(ten)
 }
 
 // The same of a data word from its id and its nine bytes; a source of another length is refused with 8.
-pub fn write_data(id: u64, bytes: &[u8], out: &mut [u8]) -> u8
-    ensures { WritesData id bytes.now out.old result out.new }
+pub fn write_data(id: u64, bytes: &[u8], out: &mut [u8]) -> Result<(), Refusal>
+    ensures { WritesData id bytes.now out.old (code result) out.new }
 {
-    if bytes.len() == DATA_BYTES {
-        let word = nine(bytes);
-        write(
-            Fields::Data {
-                id: id,
-                low: word.lo,
-                high: word.hi as u64,
-            },
-            out,
-        )
-    } else {
-        REFUSED_FIELD
+    if bytes.len() != DATA_BYTES {
+        return Err(Refusal::Field);
     }
+    let word = nine(bytes);
+    write(
+        Fields::Data {
+            id: id,
+            low: word.lo,
+            high: word.hi as u64,
+        },
+        out,
+    )
 }

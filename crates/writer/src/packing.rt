@@ -1,22 +1,21 @@
-// The word of each kind from its fields, or refusal 8 where one of them is too wide. The layouts are those of 01, "Words".
+// The word of each kind from its fields, or none where one of them is too wide. The layouts are those of 01, "Words".
 ghost use Rattle.std.specs.Prelude.{◌≡◌, ◌+◌, ◌*◌, ◌/◌, ◌%◌, ◌<◌};
 ghost use Rattle.data_ids.specs.DataIds.{is_data_id};
-ghost use Rattle.writer.specs.Write.{packed};
+ghost use Rattle.writer.specs.Write.{fitted};
 ghost use Rattle.writer.specs.declared.Fields.TheVariants as F;
 
-use crate::{Packed, REFUSED_FIELD};
 use words::Word;
 
-pub(crate) fn ihw(active_lanes: u64) -> Packed
-    ensures { result ≡ packed (F.Ihw active_lanes) }
+pub(crate) fn ihw(active_lanes: u64) -> Option<Word>
+    ensures { result ≡ fitted (F.Ihw active_lanes) }
 {
     if active_lanes < 0x1000_0000 {
-        Packed::Is(Word {
+        Some(Word {
             lo: active_lanes,
             hi: 0xE000,
         })
     } else {
-        Packed::Refused(REFUSED_FIELD)
+        None
     }
 }
 
@@ -47,19 +46,22 @@ pub(crate) fn tdh(
     continuation: u64,
     bc: u64,
     orbit: u64,
-) -> Packed
-    ensures { result ≡ packed (F.Tdh trigger_type internal no_data continuation bc orbit) }
+) -> Option<Word>
+    ensures { result ≡ fitted (F.Tdh trigger_type internal no_data continuation bc orbit) }
 {
-    if (trigger_type < 0x1000)
-        & ((internal < 2)
-            & ((no_data < 2) & ((continuation < 2) & ((bc < 0x1000) & (orbit < 0x1_0000_0000)))))
+    if trigger_type < 0x1000
+        && internal < 2
+        && no_data < 2
+        && continuation < 2
+        && bc < 0x1000
+        && orbit < 0x1_0000_0000
     {
-        Packed::Is(Word {
+        Some(Word {
             lo: tdh_low(trigger_type, internal, no_data, continuation, bc, orbit),
             hi: 0xE800,
         })
     } else {
-        Packed::Refused(REFUSED_FIELD)
+        None
     }
 }
 
@@ -89,20 +91,23 @@ pub(crate) fn tdt(
     violation: u64,
     transmission: u64,
     done: u64,
-) -> Packed
-    ensures { result ≡ packed (F.Tdt lanes to_start start_stop idle violation transmission done) }
+) -> Option<Word>
+    ensures { result ≡ fitted (F.Tdt lanes to_start start_stop idle violation transmission done) }
 {
-    if (lanes < 0x100_0000_0000_0000)
-        & ((idle < 2)
-            & ((start_stop < 2)
-                & ((to_start < 2) & ((done < 2) & ((transmission < 2) & (violation < 2))))))
+    if lanes < 0x100_0000_0000_0000
+        && idle < 2
+        && start_stop < 2
+        && to_start < 2
+        && done < 2
+        && transmission < 2
+        && violation < 2
     {
-        Packed::Is(Word {
+        Some(Word {
             lo: tdt_low(lanes, idle, start_stop, to_start),
             hi: tdt_high(done, transmission, violation),
         })
     } else {
-        Packed::Refused(REFUSED_FIELD)
+        None
     }
 }
 
@@ -114,16 +119,16 @@ fn ddw0_high(transmission: u64, violation: u64, index: u64) -> u16
     (2 * transmission + 8 * violation + 0x10 * index + 0xE400) as u16
 }
 
-pub(crate) fn ddw0(lanes: u64, violation: u64, transmission: u64, index: u64) -> Packed
-    ensures { result ≡ packed (F.Ddw0 lanes violation transmission index) }
+pub(crate) fn ddw0(lanes: u64, violation: u64, transmission: u64, index: u64) -> Option<Word>
+    ensures { result ≡ fitted (F.Ddw0 lanes violation transmission index) }
 {
-    if (lanes < 0x100_0000_0000_0000) & ((transmission < 2) & ((violation < 2) & (index < 0x10))) {
-        Packed::Is(Word {
+    if lanes < 0x100_0000_0000_0000 && transmission < 2 && violation < 2 && index < 0x10 {
+        Some(Word {
             lo: lanes,
             hi: ddw0_high(transmission, violation, index),
         })
     } else {
-        Packed::Refused(REFUSED_FIELD)
+        None
     }
 }
 
@@ -142,16 +147,16 @@ fn cdw_high(index: u64) -> u16
     (index / 0x1_0000 + 0xF800) as u16
 }
 
-pub(crate) fn cdw(user: u64, index: u64) -> Packed
-    ensures { result ≡ packed (F.Cdw user index) }
+pub(crate) fn cdw(user: u64, index: u64) -> Option<Word>
+    ensures { result ≡ fitted (F.Cdw user index) }
 {
-    if (user < 0x1_0000_0000_0000) & (index < 0x100_0000) {
-        Packed::Is(Word {
+    if user < 0x1_0000_0000_0000 && index < 0x100_0000 {
+        Some(Word {
             lo: cdw_low(user, index),
             hi: cdw_high(index),
         })
     } else {
-        Packed::Refused(REFUSED_FIELD)
+        None
     }
 }
 
@@ -159,11 +164,7 @@ pub(crate) fn cdw(user: u64, index: u64) -> Packed
 fn is_data_id(id: u64) -> bool
     ensures { result ≡ is_data_id id }
 {
-    if id < 0x100 {
-        data_ids::is_data_word_id(id as u8)
-    } else {
-        false
-    }
+    u8::try_from(id).is_ok_and(|id| data_ids::is_data_word_id(id))
 }
 
 // Bits 79:64 of a data word.
@@ -174,15 +175,15 @@ fn data_high(id: u64, high: u64) -> u16
     (high + 0x100 * id) as u16
 }
 
-pub(crate) fn data(id: u64, low: u64, high: u64) -> Packed
-    ensures { result ≡ packed (F.Data id low high) }
+pub(crate) fn data(id: u64, low: u64, high: u64) -> Option<Word>
+    ensures { result ≡ fitted (F.Data id low high) }
 {
-    if (high < 0x100) & is_data_id(id) {
-        Packed::Is(Word {
+    if high < 0x100 && is_data_id(id) {
+        Some(Word {
             lo: low,
             hi: data_high(id, high),
         })
     } else {
-        Packed::Refused(REFUSED_FIELD)
+        None
     }
 }

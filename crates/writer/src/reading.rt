@@ -1,4 +1,5 @@
-// The fields of a word of each kind, by the readers of words.
+// The fields of a word of each kind, by the readers of words. No trait stands over the six, here and in packing: each kind has fields of its own, so that its
+// impls would have these same bodies.
 ghost use Rattle.std.specs.Prelude.{◌≡◌};
 ghost use Rattle.writer.specs.Write.{fields_in};
 ghost use Rattle.writer.specs.declared.WordKind.TheVariants as K;

@@ -8,43 +8,43 @@ use Rattle.bench_file.proofs.check.Goals as goal
 pub returns-then-is_misfit : goal.returns-then-is_misfit
 returns-then-is_misfit c = sym (refused_6 c.args.file.now (sym c.if-is_misfit.ensures))
 
-pub get32-packets-requires : goal.get32-packets-requires
-get32-packets-requires c = let f = fitting c.args.file.now (sym c.if-is_misfit.ensures) in omega arith
+pub get-packets-requires : goal.get-packets-requires
+get-packets-requires c = let f = fitting c.args.file.now (sym c.if-is_misfit.ensures) in omega arith
 
 pub sum_counts-requires-clause-packets_in_bounds : goal.sum_counts-requires-clause-packets_in_bounds
 sum_counts-requires-clause-packets_in_bounds c =
     let f = fitting c.args.file.now (sym c.if-is_misfit.ensures) in
-    let e = c.get32-packets.ensures.value in
+    let e = c.get-packets.ensures.value in
     omega arith
 
 pub sum_counts-requires-clause-packets_bound : goal.sum_counts-requires-clause-packets_bound
 sum_counts-requires-clause-packets_bound c =
     let f = fitting c.args.file.now (sym c.if-is_misfit.ensures) in
-    let e = c.get32-packets.ensures.value in
+    let e = c.get-packets.ensures.value in
     omega arith
 
-pub get32-requires : goal.get32-requires
-get32-requires c = let f = fitting c.args.file.now (sym c.if-is_misfit.ensures) in omega arith
+pub get-requires : goal.get-requires
+get-requires c = let f = fitting c.args.file.now (sym c.if-is_misfit.ensures) in omega arith
 
-pub returns-then-sum_counts-get32 : goal.returns-then-sum_counts-get32
-returns-then-sum_counts-get32 c =
+pub returns-then-sum_counts-get : goal.returns-then-sum_counts-get
+returns-then-sum_counts-get c =
     let file = c.args.file.now in
-    let sums = c.sum_counts.ensures ∙ ap (words_before file) c.get32-packets.ensures.value in
+    let sums = c.sum_counts.ensures ∙ ap (words_before file) c.get-packets.ensures.value in
     sym
     (refused_7 file (sym c.if-is_misfit.ensures)
-    (λ e. c.if-sum_counts-get32.true (sums ∙ e ∙ sym c.get32.ensures.value)))
+    (λ e. c.if-sum_counts-get.true (sums ∙ e ∙ sym c.get.ensures.value)))
 
-pub first_refusal-requires : goal.first_refusal-requires
-first_refusal-requires c =
+pub check_packets-requires : goal.check_packets-requires
+check_packets-requires c =
     let f = fitting c.args.file.now (sym c.if-is_misfit.ensures) in
-    let e = c.get32-packets.ensures.value in
+    let e = c.get-packets.ensures.value in
     omega arith
 
 pub returns : goal.returns
 returns c =
     let file = c.args.file.now in
-    let sums = c.sum_counts.ensures ∙ ap (words_before file) c.get32-packets.ensures.value in
-    c.first_refusal.ensures
-    ∙ ap (λ (n : ℕ). first_refusal file n 0) c.get32-packets.ensures.value
+    let sums = c.sum_counts.ensures ∙ ap (words_before file) c.get-packets.ensures.value in
+    c.check_packets.ensures
+    ∙ ap (λ (n : ℕ). first_refusal file n 0) c.get-packets.ensures.value
     ∙ sym (packets_checked file (sym c.if-is_misfit.ensures)
-    (sym sums ∙ c.if-sum_counts-get32.false ∙ c.get32.ensures.value))
+    (sym sums ∙ c.if-sum_counts-get.false ∙ c.get.ensures.value))

@@ -1,12 +1,9 @@
--- What the pieces read come to, while so many more reads may be made.
+-- What the pieces read come to, after so many reads.
 -- Assumes nothing.
 use Rattle.std.proofs.Common.{◌≡◌, length}
 use Rattle.benchwrite.proofs.Reading.{Going}
 use Rattle.benchwrite.proofs.read_text.Given as goal
 
-abbrev pub invariant-loop-left : goal.invariant-loop-left
-invariant-loop-left g l =
-    Going l.initial.buffer l.initial.held l.buffer l.held l.reading l.left × (length l.piece ≡ length l.initial.piece)
-
-abbrev pub decreases-loop-left : goal.decreases-loop-left
-decreases-loop-left g l = l.left
+abbrev pub invariant-loop-i : goal.invariant-loop-i
+invariant-loop-i g l =
+    Going l.initial.buffer l.initial.held l.buffer l.held l.reading l._i × (length l.piece ≡ length l.initial.piece)

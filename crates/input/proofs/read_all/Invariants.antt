@@ -3,8 +3,8 @@
 use Rattle.std.proofs.Common.{length, ◌-◌, ◌≤◌}
 use Rattle.input.proofs.read_all.Given as goal
 
-abbrev pub invariant-loop-done : goal.invariant-loop-done
-invariant-loop-done g l = l.done ≤ length l.buf
+abbrev pub invariant-loop-read : goal.invariant-loop-read
+invariant-loop-read g l = l.read ≤ length l.buf
 
-abbrev pub decreases-loop-done : goal.decreases-loop-done
-decreases-loop-done g l = length l.initial.buf - l.done
+abbrev pub decreases-loop-read : goal.decreases-loop-read
+decreases-loop-read g l = length l.initial.buf - l.read

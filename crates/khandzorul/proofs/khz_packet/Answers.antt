@@ -10,4 +10,4 @@ packet-requires c = is_good c.args.tracker.now c.is_tracker.ensures c.if-not-is_
 
 pub returns : goal.returns
 returns c =
-    packet_done c.args.tracker.now c.is_tracker.ensures c.if-not-is_tracker.false c.packet.ensures
+    rw c.code.ensures (packet_done c.args.tracker.now c.is_tracker.ensures c.if-not-is_tracker.false c.packet.ensures)

@@ -6,13 +6,13 @@ use Rattle.records.proofs.Given.{count_more}
 use Rattle.records.proofs.count.Goals as goal
 use Rattle.records.proofs.count.Goals.{then-row, else-row}
 
-pub loop-i-init : goal.loop-i-init
+pub loop-row-init : goal.loop-row-init
 unfolding count
-loop-i-init c = record { low = omega arith; counted = refl }
+loop-row-init c = record { low = omega arith; counted = refl }
 
-pub loop-i-preserved : goal.loop-i-preserved
-loop-i-preserved c =
-    let more = count_more c.args.rows c.loop-i.i none (search rules) in
+pub loop-row-preserved : goal.loop-row-preserved
+loop-row-preserved c =
+    let more = count_more c.args.rows c.loop-row.row-index none (search rules) in
     elim c.if-row.branch [
       | then-row w ↦ let m = rw w.if-row.true at more in record { low = omega arith; counted = omega arith }
       | else-row w ↦ let m = rw w.if-row.false at more in record { low = omega arith; counted = omega arith }

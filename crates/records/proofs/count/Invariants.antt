@@ -4,5 +4,5 @@ use Rattle.std.proofs.Common.{◌≡◌, ◌≤◌, take}
 use Rattle.records.specs.Records.{count}
 use Rattle.records.proofs.count.Given as goal
 
-abbrev pub invariant-loop-i : goal.invariant-loop-i
-invariant-loop-i l = record { low : l.n ≤ l.i; counted : l.n ≡ count (take l.i l.rows) }
+abbrev pub invariant-loop-row : goal.invariant-loop-row
+invariant-loop-row l = record { low : l.n ≤ l.row-index; counted : l.n ≡ count (take l.row-index l.fn.rows) }

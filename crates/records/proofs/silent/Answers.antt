@@ -5,11 +5,11 @@ use Rattle.records.specs.Records.{none, any_on}
 use Rattle.records.proofs.Given.{any_more}
 use Rattle.records.proofs.silent.Goals as goal
 
-pub loop-i-init : goal.loop-i-init
+pub loop-row-init : goal.loop-row-init
 unfolding any_on
-loop-i-init c = refl
+loop-row-init c = refl
 
-pub loop-i-preserved : goal.loop-i-preserved
-loop-i-preserved c =
-    ap (λ (b : Bool). b || (get_or c.args.rows c.loop-i.i none).on) c.loop-i.invariant
-    ∙ sym (any_more c.args.rows c.loop-i.i none (search rules))
+pub loop-row-preserved : goal.loop-row-preserved
+loop-row-preserved c =
+    ap (λ (b : Bool). b || (get_or c.args.rows c.loop-row.row-index none).on) c.loop-row.invariant
+    ∙ sym (any_more c.args.rows c.loop-row.row-index none (search rules))

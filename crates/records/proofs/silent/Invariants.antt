@@ -4,5 +4,5 @@ use Rattle.std.proofs.Common.{◌≡◌, take}
 use Rattle.records.specs.Records.{any_on}
 use Rattle.records.proofs.silent.Given as goal
 
-abbrev pub invariant-loop-i : goal.invariant-loop-i
-invariant-loop-i l = l.any ≡ any_on (take l.i l.rows)
+abbrev pub invariant-loop-row : goal.invariant-loop-row
+invariant-loop-row l = l.any ≡ any_on (take l.row-index l.fn.rows)

@@ -11,24 +11,24 @@ use Rattle.records.proofs.write.Goals.{then-row, else-row}
 pub overflow_mul-n : goal.overflow_mul-n
 overflow_mul-n c = omega (arith, c.count-n.ensures, count_low c.args.rows)
 
-pub loop-k-init : goal.loop-k-init
-loop-k-init c =
+pub loop-row-init : goal.loop-row-init
+loop-row-init c =
     begins c.args.position c.args.packet c.args.rows c.args.out.now
     (omega (arith, counted c.args.position c.args.packet c.args.rows, c.count-n.ensures))
 
 pub put-requires : goal.put-requires
 put-requires c =
-    tail_long c.loop-k.used record_width c.loop-k.out (has_room c.loop-k.invariant (search rules) c.if-row.true)
+    tail_long c.loop-row.used record_width c.loop-row.out (has_room c.loop-row.invariant (search rules) c.if-row.true)
 
-pub loop-k-preserved : goal.loop-k-preserved
-loop-k-preserved c =
+pub loop-row-preserved : goal.loop-row-preserved
+loop-row-preserved c =
     elim c.if-row.branch [
-      | then-row w ↦ more c.loop-k.invariant (search rules) w.if-row.true w.put.ensures w.out-is w.used-is
-      | else-row w ↦ skip c.loop-k.invariant (search rules) w.if-row.false w.out-is w.used-is
+      | then-row w ↦ more c.loop-row.invariant (search rules) w.if-row.true w.put.ensures w.out-is w.used-is
+      | else-row w ↦ skip c.loop-row.invariant (search rules) w.if-row.false w.out-is w.used-is
     ]
 
 pub returns : goal.returns
 returns c =
-    written c.args.position c.args.packet c.args.rows c.args.out.now c.loop-k.out c.loop-k.used c.loop-k.k c.count-n.result
-    c.loop-k.invariant (search rules) c.count-n.ensures
+    written c.args.position c.args.packet c.args.rows c.args.out.now c.loop-row.out c.loop-row.used c.loop-row.row-index c.count-n.result
+    c.loop-row.invariant (search rules) c.count-n.ensures
     (omega (arith, c.count-n.ensures, c.if-out-n.false))

@@ -4,7 +4,7 @@ use Rattle.std.proofs.Common.{rules}
 use Rattle.writer.proofs.Writing.{data_wrote}
 use Rattle.writer.proofs.write_data.Goals as goal
 
-pub returns-then-bytes-eq-DATA_BYTES : goal.returns-then-bytes-eq-DATA_BYTES
-returns-then-bytes-eq-DATA_BYTES c =
-    data_wrote c.args.id c.args.bytes.now c.if-bytes-eq-DATA_BYTES.true (search rules) c.nine-word.result
+pub returns : goal.returns
+returns c =
+    data_wrote c.args.id c.args.bytes.now c.if-bytes-ne-DATA_BYTES.false (search rules) c.nine-word.result
     c.nine-word.ensures c.write.ensures

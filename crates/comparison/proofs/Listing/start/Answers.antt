@@ -4,4 +4,6 @@ use Rattle.comparison.proofs.Printing.{started}
 use Rattle.comparison.proofs.Listing.start.Goals as goal
 
 pub returns : goal.returns
-returns c = started c.args.a.now c.args.b.now c.check-first.ensures c.check-second.ensures c.first_stage.ensures
+returns c =
+    rw c.begin.ensures
+    (started c.args.a.now c.args.b.now c.check-first.ensures c.check-second.ensures c.first_stage.ensures)

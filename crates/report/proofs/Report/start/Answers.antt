@@ -4,4 +4,4 @@ use Rattle.report.proofs.Steps.{started}
 use Rattle.report.proofs.Report.start.Goals as goal
 
 pub returns : goal.returns
-returns c = started c.args.file.now c.check-refusal.ensures c.first_stage.ensures c.start.ensures.0
+returns c = started c.args.file.now c.check-checked.ensures c.first_stage.ensures c.start.ensures.0

@@ -1,25 +1,31 @@
 -- One line more.
 -- Assumes nothing.
-use Rattle.std.proofs.Common.{◌≡◌, refl, subst, rules, arith}
-use Rattle.ascii.specs.Text.{Puts}
-use Rattle.report.specs.Text.{records_at, lines}
-use Rattle.report.proofs.Lines.{line_behind, none_yet}
+use Rattle.std.proofs.Common.{arith, length-take, length-drop, ◌∙◌}
+use Rattle.report.proofs.Lines.{pass_none, pass_one, pass_all, line_room}
 use Rattle.report.proofs.text.put_lines.Goals as goal
 
-pub loop-i-init : goal.loop-i-init
-loop-i-init c = (omega arith, (omega arith, (refl, none_yet c.args.records.now c.args.out.now)))
+pub loop-record-init : goal.loop-record-init
+loop-record-init c =
+    rw (c.into_iter-record-iterator.ensures.into_iter_gives, c.chunks_exact-record-items.ensures.rest)
+    (c.chunks_exact-record-items.ensures.size, pass_none c.requires)
 
-pub loop-i-preserved : goal.loop-i-preserved
-loop-i-preserved c = (
-  omega arith,
-  (
-    omega arith,
-    (search rules, line_behind c.args.records.now c.loop-i.i c.loop-i.invariant.1.1.1 c.put_line-used.ensures.puts),
-  ),
-)
+pub put_line-used-requires : goal.put_line-used-requires
+put_line-used-requires c =
+    let s = c.in-Some.ensures.steps in
+    let (size, p) = c.loop-record.invariant in
+    let room = line_room c.in-Some.record.now _ p s.1.0 (s.1.1 ∙ size) in
+    simp (length-take, length-drop) (omega arith)
+
+pub loop-record-preserved : goal.loop-record-preserved
+loop-record-preserved c =
+    let s = c.in-Some.ensures.steps in
+    let (size, p) = c.loop-record.invariant in (
+      s.0 ∙ size,
+      pass_one c.in-Some.record.now _ p s.1.0 (s.1.1 ∙ size) c.put_line-used.ensures.puts c.put_line-used.ensures.upper_bound c.put_line-used.auto.out,
+    )
 
 pub returns : goal.returns
 returns c =
-    let e : c.loop-i.i ≡ c.args.n = omega arith in
-    subst (λ k. Puts (lines (records_at k c.args.records.now)) c.args.out.now c.loop-i.used c.loop-i.out) e
-    c.loop-i.invariant.1.1.1
+    let s = c.in-None.ensures.steps in
+    let (size, p) = c.loop-record.invariant in
+    pass_all p (omega (arith, size, s.1.0))

@@ -1,45 +1,34 @@
--- One number more, or the end of the line, or what is no number.
+-- One number more, a part that is none, and parts that are too few or too many.
 -- Assumes nothing.
-use Rattle.std.proofs.Common.{sym, ◌∙◌, subst}
-use Rattle.script.specs.Line.{Tells}
-use Rattle.script.proofs.Counting.{numbers_from, one_more, none_left, too_many, no_number, ended}
+use Rattle.std.proofs.Common.{sym, ◌∙◌, arith}
+use Rattle.script.proofs.Counting.{one_more, no_number, too_few, too_many, so_many}
 use Rattle.script.proofs.line.read_numbers.Goals as goal
 
-pub returns-then-begin-text : goal.returns-then-begin-text
-returns-then-begin-text c =
-    let l = c.loop-at in
-    subst (Tells (numbers_from c.args.text.now c.args.from)) (sym c.told.ensures)
-    (none_left c.args.text.now c.args.from l.n l.count l.at _ c.begin_of-begin.ensures c.if-begin-text.true l.invariant)
+pub returns-in_err-part : goal.returns-in_err-part
+returns-in_err-part c =
+    c.from_residual.ensures ∙ too_few c.args.count c.loop-i.invariant c.in_err-part.ensures c.loop-i-test.true
 
-pub returns-then-count-ge-MOST_NUMBERS : goal.returns-then-count-ge-MOST_NUMBERS
-returns-then-count-ge-MOST_NUMBERS c =
-    let l = c.loop-at in
-    subst (Tells (numbers_from c.args.text.now c.args.from)) (sym c.told-then-count-ge-MOST_NUMBERS.ensures)
-    (too_many c.args.text.now c.args.from l.n l.count l.at _ c.begin_of-begin.ensures c.if-begin-text.false
-    c.if-count-ge-MOST_NUMBERS.true
-    l.invariant)
+pub returns-in_err-n : goal.returns-in_err-n
+returns-in_err-n c =
+    let few = c.loop-i-test.true in
+    let most = c.requires in
+    c.from_residual-in_err-n.ensures
+    ∙ no_number c.args.count c.loop-i.invariant c.in_ok-part.ensures (sym c.number.ensures ∙ c.in_err-n.was) (omega (arith, few, most))
 
-pub returns-in_default : goal.returns-in_default
-returns-in_default c =
-    let l = c.loop-at in
-    subst (Tells (numbers_from c.args.text.now c.args.from)) (sym c.told-in_default.ensures)
-    (no_number c.args.text.now c.args.from l.n l.count l.at _ _ c.begin_of-begin.ensures c.if-begin-text.false
-    c.if-count-ge-MOST_NUMBERS.false
-    c.end_of-end.ensures
-    (sym c.number.ensures ∙ c.in_default.is)
-    l.invariant)
+pub loop-i-preserved : goal.loop-i-preserved
+loop-i-preserved c =
+    let few = c.loop-i-test.true in
+    let most = c.requires in
+    one_more _ c.in_ok-part.ensures (sym c.number.ensures ∙ c.in_ok-n.was) (omega (arith, few, most)) c.loop-i.invariant
 
-pub loop-at-preserved : goal.loop-at-preserved
-loop-at-preserved c =
-    let l = c.loop-at in
-    one_more c.args.text.now c.args.from l.n l.count l.at _ _ _ c.begin_of-begin.ensures c.if-begin-text.false
-    c.if-count-ge-MOST_NUMBERS.false
-    c.end_of-end.ensures
-    (sym c.in-Is.ensures)
-    l.invariant
+pub returns-in-Some : goal.returns-in-Some
+returns-in-Some c =
+    let past = c.loop-i-test.false in
+    let end = c.loop-i.auto.i-end in
+    too_many c.args.count c.loop-i.invariant c.in-Some.ensures (omega (arith, past, end))
 
-pub returns : goal.returns
-returns c =
-    let l = c.loop-at in
-    subst (Tells (numbers_from c.args.text.now c.args.from)) (sym c.told-2.ensures)
-    (ended c.args.text.now c.args.from l.n l.count l.at c.loop-at-test.false l.invariant)
+pub returns-in-None : goal.returns-in-None
+returns-in-None c =
+    let past = c.loop-i-test.false in
+    let end = c.loop-i.auto.i-end in
+    so_many c.args.count c.loop-i.invariant c.in-None.ensures (omega (arith, past, end))

@@ -6,8 +6,8 @@ use Rattle.words.proofs.Tests.{fails, holds}
 use Rattle.packet.specs.Packet.{in_range, max_words}
 use Rattle.tracker_array.specs.Place as P
 use Rattle.tracker_array.specs.Array.{is_on}
-use Rattle.tracker_array.specs.Read.{place, settings_in, packet_in, stored_in, frame_in, tracker_in}
-use Rattle.tracker_array.specs.Read.{settings_good, packets_good, stored_good, nothing_missing, is_good}
+use Rattle.tracker_array.specs.Read.{place, packet_in, stored_in, frame_in, tracker_in}
+use Rattle.tracker_array.specs.Read.{settings_good, packets_good, stored_good, nothing_missing, kept_good}
 use Rattle.tracker_array.proofs.Laws.{bare_good}
 use Rattle.tracker_array.proofs.test.is_good.Goals as goal
 
@@ -20,16 +20,17 @@ first false b false d = refl
 
 -- The parts in the groups that the code asks, where a packet was accepted.
 grouped : (l : List ℕ) → is_on (place l P.accepted) ≡ true
-    → ((settings_good (settings_in l)
+    → ((settings_good l
     && (packets_good true (place l P.packets) && (in_range (packet_in l) && leb (place l P.count) max_words)))
     && (stored_good (is_on (place l P.frames)) (stored_in l) (frame_in l)
     && (leb (place l P.state) 6 && nothing_missing (tracker_in l).at.fsm.state (stored_in l))))
-    ≡ (leb (place l P.state) 6 && is_good (tracker_in l))
+    ≡ (settings_good l && (leb (place l P.state) 6 && kept_good (tracker_in l)))
 grouped l have =
-    let came = settings_good (settings_in l)
-    && (packets_good true (place l P.packets) && (in_range (packet_in l) && leb (place l P.count) max_words)) in
+    let came = packets_good true (place l P.packets) && (in_range (packet_in l) && leb (place l P.count) max_words) in
     let kept = stored_good (is_on (place l P.frames)) (stored_in l) (frame_in l) in
-    first came kept (leb (place l P.state) 6) (nothing_missing (tracker_in l).at.fsm.state (stored_in l))
+    let missing = nothing_missing (tracker_in l).at.fsm.state (stored_in l) in
+    and_assoc (settings_good l) came (kept && (leb (place l P.state) 6 && missing))
+    ∙ ap (λ (b : Bool). settings_good l && b) (first came kept (leb (place l P.state) 6) missing)
     ∙ simp (have, and-true, and_assoc)
 
 pub returns-then-a-ne1 : goal.returns-then-a-ne1

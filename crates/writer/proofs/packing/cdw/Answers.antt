@@ -1,21 +1,28 @@
 -- `packing::cdw`.
 -- Assumes nothing.
-use Rattle.std.proofs.Common.{arith, ◌∙◌}
+use Rattle.std.proofs.Common.{arith, sym, ◌∙◌}
 use Rattle.words.proofs.Tests.{tests}
 use Rattle.writer.specs.declared.Fields.TheVariants as F
 use Rattle.writer.specs.Layout.{put}
-use Rattle.writer.proofs.Writing.{is_packed, not_packed, cdw_fit}
+use Rattle.writer.proofs.Writing.{is_fitted, not_fitted, cdw_fit}
 use Rattle.writer.proofs.packing.cdw.Goals as goal
 
-pub returns-then-user-index : goal.returns-then-user-index
+pub returns-then-index-lt16777216 : goal.returns-then-index-lt16777216
 unfolding put
-returns-then-user-index c =
+returns-then-index-lt16777216 c =
     let a = c.args in
-    let e = c.if-user-index.true in
-    let (u, j) = simp tests at e in
-    is_packed (F.Cdw a.user a.index) _ (cdw_fit a.user a.index ∙ e) (omega arith) (omega arith) (omega arith)
+    is_fitted (F.Cdw a.user a.index) _
+    (cdw_fit a.user a.index ∙ simp tests (
+      c.if-user-lt281474976710656.true,
+      c.if-index-lt16777216.true,
+    ))
+    (omega arith)
+    (omega arith)
+    (omega arith)
 
-pub returns-else-user-index : goal.returns-else-user-index
-returns-else-user-index c =
+pub returns-else-user-lt281474976710656 : goal.returns-else-user-lt281474976710656
+returns-else-user-lt281474976710656 c =
     let a = c.args in
-    not_packed (F.Cdw a.user a.index) (cdw_fit a.user a.index ∙ c.if-user-index.false)
+    not_fitted (F.Cdw a.user a.index)
+    (λ e. let (u, j) = simp tests at (sym (cdw_fit a.user a.index) ∙ e) in
+    omega (arith, c.else-user-lt281474976710656.either))

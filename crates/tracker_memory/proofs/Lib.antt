@@ -1,0 +1,4 @@
+pub mod Storing
+pub mod Numbers
+pub mod Steps
+pub mod Unique

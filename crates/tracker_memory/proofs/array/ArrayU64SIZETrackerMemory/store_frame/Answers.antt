@@ -1,0 +1,13 @@
+use Rattle.std.proofs.Common.{◌∙◌}
+use Rattle.tracker_memory.proofs.Numbers as N
+use Rattle.tracker_memory.proofs.array.ArrayU64SIZETrackerMemory.store_frame.Goals as goal
+
+pub returns-clause-holds : goal.returns-clause-holds
+returns-clause-holds c =
+    rw (c.from.ensures ∙ N.flag_number c.args.frame.opened)
+    (N.frame c.args.self.now c.requires c.args.frame).holds
+
+pub returns-clause-stored : goal.returns-clause-stored
+returns-clause-stored c =
+    rw (c.from.ensures ∙ N.flag_number c.args.frame.opened)
+    (N.frame c.args.self.now c.requires c.args.frame).is
