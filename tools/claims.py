@@ -1,7 +1,8 @@
 #!/usr/bin/env python3
 """claims.py: two claims of the docs, looked for in the tree. Each public function of a library has an `ensures` that determines its result and the final
-content of what it is lent to change: an equation, or a record of specs/ with a uniqueness law in proofs/; docs/EXCEPTIONS.md names those that have none. And each number of docs/CODES.md has a wrong
-program (a must-fail edit of src/) that names it. Exit status 1 where that is not so."""
+content of what it is lent to change: an equation, or a record of specs/ with a uniqueness law in proofs/; docs/EXCEPTIONS.md names those that have none. A
+function of a public trait is one, which each impl is held to; a conversion (From, TryFrom) has such a law in place of an `ensures`. And each number of
+docs/CODES.md has a wrong program (a must-fail edit of src/) that names it. Exit status 1 where that is not so."""
 import glob
 import os
 import re
@@ -16,17 +17,48 @@ def read(path):
 
 
 def functions(text):
-    """The public functions of a source: name, parameters, the type of its result or '', and its contract's `ensures`."""
-    for m in re.finditer(r'^ *pub (?:extern "C" )?fn (\w+)(?:<[^>]*>)?\(', text, re.M):
+    """The public functions of a source and those of its public traits: name, parameters, the type of its result or '', and its contract's `ensures`."""
+    yield from told(text, r'^ *pub (?:extern "C" )?fn (\w+)(?:<[^>]*>)?\(')
+    for trait in re.findall(r'^pub trait [^\n]*\{\n(.*?)^\}', text, re.M | re.S):
+        yield from told(trait, r'^    fn (\w+)(?:<[^>]*>)?\(')
+
+
+def told(text, begins):
+    """Of the functions that begin so: up to the body, or to the semicolon of a trait's."""
+    for m in re.finditer(begins, text, re.M):
         deep, at = 1, m.end()
         while deep:
             deep += {'(': 1, ')': -1}.get(text[at], 0)
             at += 1
         parameters, rest = text[m.end():at - 1], text[at:]
-        head = rest[:re.search(r'^ *\{$|(?<!ensures)(?<!requires) \{$', rest, re.M).start()]
+        head = rest[:re.search(r';$|^ *\{$|(?<!ensures)(?<!requires) \{$', rest, re.M).start()]
         ensures = [' '.join(e.split()) for e in re.findall(r'^ *ensures (?:\w+ )?\{ (.*?) \}$', head, re.S | re.M)]
         result = re.split(r'\b(?:requires|ensures|where)\b', head)[0].partition('->')[2].strip()
         yield m.group(1), parameters, result, ensures
+
+
+def conversions(text):
+    """The conversions of a source: the trait and the two types, and the law of what they give, or ''."""
+    for name, body in re.findall(r'^impl(?:<[^\n]*?>)? ((?:Try)?From<[^\n]*) \{\n(.*?)^\}', text, re.M | re.S):
+        law = re.search(r'^    ghost (?:try_)?from_gives = \{ (.*?) \};$', body, re.M | re.S)
+        yield name, law.group(1) if law else ''
+
+
+def is_settled(crate, law, laws):
+    """Whether the law of a conversion determines what it gives, its last argument, in each of its cases."""
+    if law.startswith('λ '):
+        names, _, body = law[2:].partition('. ')
+        cases = [(names, body)]
+    else:
+        cases = []
+        for path in glob.glob(os.path.join(TOP, 'crates', crate, 'specs', '*.antt')):
+            cases += re.findall(rf'^{re.escape(law)} ([^=:]*) = (.*(?:\n {{4}}.*)*)', read(path), re.M) if law else []
+
+    def said(names, body):
+        given = re.compile(rf"(?<![\w'.]){re.escape(re.findall(r'[a-z][a-z_0-9]*', names)[-1])}(?![\w'])")
+        return any(given.search(part) and ('≡' in part or part.strip('( ').split(' ')[0] in laws) for part in body.split(' × '))
+
+    return bool(cases) and all(said(*case) for case in cases)
 
 
 def unique_laws():
@@ -78,12 +110,16 @@ def contracts():
             continue
         for fn, parameters, result, ensures in functions(read(path)):
             seen += 1
-            lent = re.findall(r'(\w+): &mut', parameters)
+            lent = re.findall(r'(\w+): &mut', parameters) + ['self'] * ('&mut self' in parameters)
             is_determined = determined(ensures, result, lent, laws)
             is_excepted = f'{crate}::{fn}' in excepted
             excepted.discard(f'{crate}::{fn}')
             if is_determined == is_excepted:
                 wrong.append(f'{os.path.relpath(path, TOP)}: what `{fn}` gives is {"" if is_determined else "not "}determined by its contract')
+        for name, law in conversions(read(path)):
+            seen += 1
+            if not is_settled(crate, law, laws):
+                wrong.append(f'{os.path.relpath(path, TOP)}: what `{name}` gives is not determined by its law')
     return wrong + [f'docs/EXCEPTIONS.md: no public function {name}' for name in sorted(excepted)], seen
 
 

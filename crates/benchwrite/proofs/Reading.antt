@@ -5,7 +5,7 @@ use Rattle.bench_file.specs.File.{most_bytes}
 use Rattle.bench_writer.proofs.Holding.{start_holds, holds_good}
 use Rattle.script.specs.declared.Reading.{Reading}
 use Rattle.script.specs.Outcome.{most_line}
-use Rattle.script.specs.Feeding.{progress, State, state_of, begun, GoodReading, fed, fed_all, whole, HasRead, ReadPost}
+use Rattle.script.specs.Feeding.{State, state_of, begun, GoodReading, fed, fed_all, whole, HasRead, ReadPost}
 use Rattle.script.proofs.Pieces.{fed_last, whole_last}
 
 -- The bytes of a read, and the reads of a text.
@@ -18,11 +18,11 @@ most_reads = 18014398509481983
 -- After so many reads.
 pub record Going (buffer₀ held₀ buffer held : List ℕ) (r : Reading) (reads : ℕ) : Type 0 where
   pub pieces : List (List ℕ)
-  pub state_is : state_of buffer held (progress r) ≡ fed_all (state_of buffer₀ held₀ begun) pieces
+  pub state_is : state_of buffer held r ≡ fed_all (state_of buffer₀ held₀ begun) pieces
   pub few : length (whole pieces) ≤ piece_bytes * reads
-  pub good : GoodReading buffer held (progress r)
+  pub good : GoodReading buffer held r
 
-pub going : (buffer held : List ℕ) {r : Reading} → length buffer ≡ most_bytes → length held ≡ most_line → progress r ≡ begun
+pub going : (buffer held : List ℕ) {r : Reading} → length buffer ≡ most_bytes → length held ≡ most_line → r ≡ begun
     → Going buffer held buffer held r 0
 unfolding whole fed_all
 going buffer held long long-held e =
@@ -38,7 +38,7 @@ going buffer held long long-held e =
 pub one_more : {buffer₀ held₀ buffer held : List ℕ} {r : Reading} {reads : ℕ} (piece : List ℕ) {r' : Reading} {buffer' held' : List ℕ}
     → Going buffer₀ held₀ buffer held r reads
     → length piece ≤ piece_bytes
-    → ReadPost (fed (state_of buffer held (progress r)) piece) r' buffer' held'
+    → ReadPost (fed (state_of buffer held r) piece) r' buffer' held'
     → Going buffer₀ held₀ buffer' held' r' (reads + 1)
 one_more {buffer₀} {held₀} piece g short post =
     let is : state_of _ _ _ ≡ fed (state_of _ _ _) piece = λ j. state_of (post.buffer_is j) (post.held_is j) (post.reading_is j) in

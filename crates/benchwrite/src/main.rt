@@ -2,7 +2,7 @@
 // Its buffers, with the 1,024 bytes of eprintln, are together below 65,536 bytes, whatever the length of the text.
 #![tactic(auto)]
 
-ghost use Rattle.std.specs.Prelude.{◌≡◌, ◌≤◌, length, take, IfSome};
+ghost use Rattle.std.specs.Prelude.{◌≡◌, ◌≤◌, length, take, IfSome, MatchResult};
 ghost use Rattle.bench_file.specs.File.{most_bytes};
 ghost use Rattle.script.specs.Outcome.{most_line, IsAnswer};
 ghost use Rattle.script.specs.Feeding.{HasRead};
@@ -16,30 +16,35 @@ const PIECE: usize = 512;
 // Reads of one text: below 2^63 bytes in all, so that no line's number passes the last one. A text that goes on is not read to its end.
 const MOST_READS: u64 = 0x3F_FFFF_FFFF_FFFF;
 
-// Reads to the end of the text or to a line that is refused; none where a read fails, or the text goes on.
+// Reads to the end of the text or to a line that is refused; refused where a read fails, or the text goes on. How far the text was read is said in each case.
 fn read_text<R: Read>(
     from: &mut R,
     buffer: &mut [u8],
     held: &mut [u8],
     piece: &mut [u8],
-) -> Option<Reading>
+) -> Result<Reading, Reading>
     requires buffer_len { length buffer.old ≡ most_bytes }
     requires held_len { length held.old ≡ most_line }
     requires piece_len_bound { length piece.old ≤ 512 }
-    ensures { IfSome result (λ r. HasRead buffer.old held.old buffer.new held.new r) }
+    ensures { MatchResult result (λ r. HasRead buffer.old held.old buffer.new held.new r) (λ r. HasRead buffer.old held.old buffer.new held.new r) }
 {
     let mut reading = script::start();
-    for _i in 0..MOST_READS {
-        let n = from.read(piece).ok()?;
+    // No `for`: that the reads are counted, so that the program ends, is a fact that the edit reads_not_counted is refused by.
+    let mut reads: u64 = 0;
+    while reads < MOST_READS {
+        let Ok(n) = from.read(piece) else {
+            return Err(reading);
+        };
         if n == 0 {
-            return Some(reading);
+            return Ok(reading);
         }
         reading = script::feed(buffer, held, reading, &piece[..n]);
-        if reading.refusal.is_some() {
-            return Some(reading);
+        if reading.refusal != 0 {
+            return Ok(reading);
         }
+        reads += 1;
     }
-    None
+    Err(reading)
 }
 
 // The answer of the text that is read; none where it was not read to its end.
@@ -55,7 +60,9 @@ fn make<R: Read>(
     ensures answer { IfSome result (λ a. IsAnswer (take a.n buffer.new)) }
     ensures n_in_bounds { IfSome result (λ a. a.n ≤ length buffer.new) }
 {
-    let reading = read_text(from, buffer, held, piece)?;
+    let Ok(reading) = read_text(from, buffer, held, piece) else {
+        return None;
+    };
     Some(script::finish(buffer, held, reading))
 }
 
@@ -76,7 +83,7 @@ fn run<R: Read>(
         return;
     };
     let made = &buffer[..answer.n];
-    if answer.refusal.is_none() && bench_file::check(made).is_err() {
+    if answer.refusal == 0 && bench_file::check(made).is_err() {
         let _ = rt.eprintln("benchwrite: what was made is no bench file");
         return;
     }

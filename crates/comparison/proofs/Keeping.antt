@@ -9,7 +9,6 @@ use native.Mathlib.Omega.{arith}
 use borrow.Author.Tests.{ltb-true, ltb-false}
 use lib.Dec.{ltb}
 use lib.ListN.{length}
-use Rattle.refusals.specs.Refusals.{number}
 use Rattle.bench_file.specs.File.{count_at, words_before}
 use Rattle.bench_file.proofs.Checking.{one_more}
 use Rattle.bench_file.proofs.Reading.{sound}
@@ -67,7 +66,7 @@ module _ (a b : List ℕ) where
       each_one (10 * common_words a b l.packet - l.part) l.part (row_place l.packet)
       ++ packets_from (l.packet + 1)
   comes_at l S.Last = []
-  comes_at l (S.Refused r file) = []
+  comes_at l (S.Refused n file) = []
   comes_at l S.Done = []
 
   -- The text that is still to be printed.
@@ -82,7 +81,7 @@ module _ (a b : List ℕ) where
   rest_at l S.Fields = listed (comes_at l S.Fields) l.count
   rest_at l S.Bytes = listed (comes_at l S.Bytes) l.count
   rest_at l S.Last = listed [] l.count
-  rest_at l (S.Refused r file) = refused_line (number r) file
+  rest_at l (S.Refused n file) = refused_line n file
   rest_at l S.Done = []
 
   unfoldable pub rest_of : Listing → List ℕ
@@ -301,8 +300,8 @@ module _ (a b : List ℕ) where
   stage S.Bytes l g = byte_moves (at_stage S.Bytes l) g.at g.low
   stage S.Last l g =
       record { good = record { at = tt; low = omega (arith, g.low) }; front = last l.count; less = λ _. omega arith }
-  stage (S.Refused r file) l g =
-      record { good = record { at = tt; low = omega (arith, g.low) }; front = append-nil (refused_line (number r) file); less = λ _. omega arith }
+  stage (S.Refused n file) l g =
+      record { good = record { at = tt; low = omega (arith, g.low) }; front = append-nil (refused_line n file); less = λ _. omega arith }
   stage S.Done l g = record { good = g; front = refl; less = λ e. absurd (true≢false e) }
 
   -- There is one stage of a listing that is done.
@@ -314,7 +313,7 @@ module _ (a b : List ℕ) where
   is_done_lem S.Fields e = cc
   is_done_lem S.Bytes e = cc
   is_done_lem S.Last e = cc
-  is_done_lem (S.Refused r file) e = cc
+  is_done_lem (S.Refused n file) e = cc
   is_done_lem S.Done e = refl
 
   pub laws : Laws (printer a b) rest_of (most_left a b)

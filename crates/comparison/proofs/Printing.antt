@@ -9,9 +9,7 @@ use native.Mathlib.Omega.{arith}
 use borrow.Author.Tests.{eqb-true, ltb-false}
 use lib.Dec.{ltb, eqb}
 use lib.ListN.{length}
-use Rattle.refusals.specs.Refusals.{of_number}
 use Rattle.bench_file.specs.File.{check_of}
-use Rattle.bench_file.proofs.Known.{Known, known_by, known_file, check_known}
 use Rattle.bench_file.proofs.Reading.{sound}
 use Rattle.ascii.specs.Steps.{Prints, StepPost, Steps}
 use Rattle.ascii.proofs.Steps.{Ends, onward, steps_print, ends}
@@ -33,17 +31,13 @@ not_refused file e = at (ltb most_compared (length file)) refl
     at true t = absurd (omega (arith, simp t at e))
     at false t = (simp t at e, ltb-false _ _ t)
 
-refusal_known : (file : List ℕ) → Known (refusal_of file)
-unfolding refusal_of
-refusal_known file = known_by (ltb most_compared (length file)) known_file (check_known file)
-
 -- The start.
 module _ (a b : List ℕ) where
   abbrev start_at : Stage → Listing
   start_at s = standing s 0 0 0 0 0
 
   start_good : (x y : Bool) → eqb (refusal_of a) 0 ≡ x → eqb (refusal_of b) 0 ≡ y
-      → Good a b (start_at (cond x (cond y S.Packets (S.Refused (of_number (refusal_of b)) 1)) (S.Refused (of_number (refusal_of a)) 0)))
+      → Good a b (start_at (cond x (cond y S.Packets (S.Refused (refusal_of b) 1)) (S.Refused (refusal_of a) 0)))
   unfolding most_left
   start_good true true p q =
       let one = (not_refused a (eqb-true _ _ p)).0 in
@@ -69,8 +63,8 @@ module _ (a b : List ℕ) where
     where
       at : (x y : Bool) → eqb (refusal_of a) 0 ≡ x → eqb (refusal_of b) 0 ≡ y → rest_of a b (start_listing a b) ≡ text a b
       at true true p q = simp (p, q, zero-add)
-      at true false p q = simp (p, q, refusal_known b q)
-      at false y p q = simp (p, refusal_known a p)
+      at true false p q = simp (p, q)
+      at false y p q = simp p
 
 -- For the code: a step that was taken at a stage, and what is asked there.
 module _ {a b : List ℕ} {l : Listing} (g : Good a b l) {s : Stage} (e : l.stage ≡ s) where

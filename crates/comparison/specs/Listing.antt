@@ -1,7 +1,6 @@
 -- A listing on the way: what each step prints.
 -- Assumes nothing.
 use Rattle.std.specs.Prelude.{ℕ, ◌+◌, ◌-◌, ◌*◌, ◌/◌, ◌%◌, ◌^◌, ◌≤◌, ◌<◌, ◌≡◌, Bool, true, false, cond, List, ltb, eqb}
-use Rattle.refusals.specs.Refusals.{number, of_number}
 use Rattle.words.specs.Word.{word_bytes}
 use Rattle.bench_file.specs.File.{count_at, words_before, check_of}
 use Rattle.ascii.specs.Steps.{Printed, nothing, Printer}
@@ -18,7 +17,7 @@ standing stage packet part first second count =
 
 -- The start: both files were checked, and nothing is printed yet.
 abbrev pub first_stage : ℕ → ℕ → Stage
-first_stage first second = cond (eqb first 0) (cond (eqb second 0) S.Packets (S.Refused (of_number second) 1)) (S.Refused (of_number first) 0)
+first_stage first second = cond (eqb first 0) (cond (eqb second 0) S.Packets (S.Refused second 1)) (S.Refused first 0)
 
 unfoldable pub start_listing : List ℕ → List ℕ → Listing
 start_listing a b = standing (first_stage (refusal_of a) (refusal_of b)) 0 0 0 0 0
@@ -74,7 +73,7 @@ stage_step a b l S.Packet = packet_step a b l
 stage_step a b l S.Fields = fields_step a b l
 stage_step a b l S.Bytes = bytes_step a b l
 stage_step a b l S.Last = record { next = done_listing l.count; text = last_line l.count }
-stage_step a b l (S.Refused r file) = record { next = done_listing l.count; text = refused_line (number r) file }
+stage_step a b l (S.Refused n file) = record { next = done_listing l.count; text = refused_line n file }
 stage_step a b l S.Done = nothing l
 
 unfoldable pub step_of : List ℕ → List ℕ → Listing → Printed Listing
@@ -89,7 +88,7 @@ is_done S.Packet = false
 is_done S.Fields = false
 is_done S.Bytes = false
 is_done S.Last = false
-is_done (S.Refused r file) = false
+is_done (S.Refused n file) = false
 is_done S.Done = true
 
 -- No more steps than so many are left: a packet takes at most 50,000.
@@ -101,7 +100,7 @@ most_at a b l S.Packet = 50000 * (common a b - l.packet) + 2
 most_at a b l S.Fields = 50000 * (common a b - l.packet) + 1 - l.part
 most_at a b l S.Bytes = 50000 * (common a b - l.packet) - 10 - l.part
 most_at a b l S.Last = 1
-most_at a b l (S.Refused r file) = 1
+most_at a b l (S.Refused n file) = 1
 most_at a b l S.Done = 0
 
 unfoldable pub most_left : List ℕ → List ℕ → Listing → ℕ
@@ -140,7 +139,7 @@ GoodAt a b l S.Packet = AtPacket a b l
 GoodAt a b l S.Fields = AtField a b l
 GoodAt a b l S.Bytes = AtByte a b l
 GoodAt a b l S.Last = Unit
-GoodAt a b l (S.Refused r file) = Unit
+GoodAt a b l (S.Refused n file) = Unit
 GoodAt a b l S.Done = Unit
 
 pub record Good (a b : List ℕ) (l : Listing) : Type 0 where

@@ -62,7 +62,7 @@ pub enum Stage {
     Fields,
     Bytes,
     Last,
-    Refused { refusal: Refusal, file: u8 },
+    Refused { number: u8, file: u8 },
     Done,
 }
 
@@ -89,12 +89,19 @@ pub fn check(file: &[u8]) -> Result<(), Refusal>
 }
 
 // The first file's refusal comes first.
+#[tactic(auto, using(refusals::proofs::Numbers::refused))]
 fn first_stage(first: Result<(), Refusal>, second: Result<(), Refusal>) -> Stage
     ensures { result ≡ first_stage (code first) (code second) }
 {
     match (first, second) {
-        (Err(refusal), _) => Stage::Refused { refusal, file: 0 },
-        (Ok(()), Err(refusal)) => Stage::Refused { refusal, file: 1 },
+        (Err(refusal), _) => Stage::Refused {
+            number: u8::from(refusal),
+            file: 0,
+        },
+        (Ok(()), Err(refusal)) => Stage::Refused {
+            number: u8::from(refusal),
+            file: 1,
+        },
         (Ok(()), Ok(())) => Stage::Packets,
     }
 }
@@ -373,8 +380,8 @@ fn stage_step(l: Listing, a: &[u8], b: &[u8], out: &mut [u8]) -> Filled<Listing>
             n: ascii::put_line(out, b"differences", &[l.count]),
             next: begin(Stage::Done, l.count),
         },
-        Stage::Refused { refusal, file } => Filled {
-            n: ascii::put_line(out, b"refused", &[u8::from(refusal) as u64, file as u64]),
+        Stage::Refused { number, file } => Filled {
+            n: ascii::put_line(out, b"refused", &[number as u64, file as u64]),
             next: begin(Stage::Done, l.count),
         },
         Stage::Done => Filled { next: l, n: 0 },

@@ -7,8 +7,9 @@ ghost use Rattle.cdp_running.specs.Tracker.{Good};
 use cdp_running::Tracker;
 use packet::{Packet, Rule, Settings};
 use records::RECORD_WIDTH;
+use report::Report;
+use std::fs;
 use std::rt::Files;
-use std::{fs, io};
 use tracker_memory::WordCall;
 
 // The most numbers that the records of a word have.
@@ -35,9 +36,15 @@ fn number(rt: &impl Print, n: u64) {
     let _ = rt.print(n);
 }
 
-// The report of a file.
+// The report of a file, a step at a time: a write that fails loses that step's text alone.
 fn show(rt: &impl Print, file: &[u8]) {
-    let _ = report::print(file, &mut io::writer(rt));
+    let mut out = [0u8; report::MOST_PRINTED];
+    let mut report = Report::start(file);
+    while !report.finished() {
+        let filled = report.step(file, &mut out);
+        text(rt, &out[..filled.n]);
+        report = filled.next;
+    }
 }
 
 // A file by its name.

@@ -1,12 +1,15 @@
 -- What a call in any memory gives, on the numbers that are lent.
 -- Assumes nothing.
 use Prim.Native.Nat.{ℕ}
-use Rattle.std.proofs.Common.{◌≡◌, ap, ◌∙◌, subst, Option, Some, MatchOption}
+use Rattle.std.proofs.Common.{◌≡◌, refl, sym, ap, ◌∙◌, subst, Option, Some, MatchOption, Result, Ok, Err}
 use mathlib.Core.List.{List}
+use Rattle.refusals.specs.declared.Refusal.{Refusal}
+use Rattle.words.specs.Word.{word_of}
 use Rattle.records.specs.Records.{room}
-use Rattle.cdp_running.specs.Told.{Told}
-use Rattle.cdp_running.specs.Told.{WordAnswer}
-use Rattle.cdp_running.specs.Word.{WordPost}
+use Rattle.cdp_running.specs.declared.Taken.{Taken}
+use Rattle.cdp_running.specs.Told.{Told, WordAnswer, told_by}
+use Rattle.cdp_running.specs.Word.{Outcome, taken, refused, taken_as, word_call, word_answer, WordPost}
+use Rattle.cdp_running.proofs.Outcome.{next_is}
 use Rattle.payload.specs.Answer.{PayloadAnswer}
 use Rattle.payload.specs.Answer.{PayloadTold}
 use Rattle.payload.specs.Payload.{PayloadPost}
@@ -15,6 +18,8 @@ use Rattle.tracker_array.specs.Read.{tracker_in}
 use Rattle.tracker_array.specs.Good.{GoodArray}
 use Rattle.tracker_memory.specs.Holds.{Holds}
 use Rattle.in_place.specs.Calls.{WordInPlace, PayloadInPlace}
+use Rattle.in_place.specs.Storing.{WordStores}
+use Rattle.in_place.proofs.Storing.{good_next}
 use Rattle.in_place.proofs.Kept.{kept_word, kept_payload, good_after}
 
 -- The numbers as an array of them: the same numbers.
@@ -34,6 +39,27 @@ word_in_place {a} {q} {b} {out₀} {out} {after} {told} same h k given =
       buffer_is = p.buffer_is;
       good = good_after e (kept_word (tracker_in a) (h.is.good, h.is.sized) b (room out₀));
     }
+
+-- What a word call leaves is what the kind of the word stores, or nothing.
+pub word_stored : {a b out₀ out after : List ℕ} (r : Result Taken Refusal) → GoodArray a
+    → WordInPlace a b out₀ (told_by r) after out
+    → WordStores a b r after
+word_stored {a} {b} {out₀} {out} {after} r h given = at r (word_call (tracker_in a) b (room out₀)) refl given.answer given.numbers
+  where
+    at : (r : Result Taken Refusal) (o : Outcome) → word_call (tracker_in a) b (room out₀) ≡ o
+        → told_by r ≡ (word_answer (tracker_in a) (word_call (tracker_in a) b (room out₀))).told
+        → after ≡ encode_of (word_answer (tracker_in a) (word_call (tracker_in a) b (room out₀))).tracker
+        → WordStores a b r after
+    at (Ok told) (taken x) e answer numbers =
+        numbers ∙ ap (λ (y : Outcome). encode_of (word_answer (tracker_in a) y).tracker) e
+        ∙ ap encode_of (next_is (tracker_in a) b (room out₀) e)
+        ∙ sym (good_next a (taken_as (tracker_in a) (word_of b)) (word_of b) h)
+    at (Ok told) (refused n) e answer numbers =
+        let f = answer ∙ ap (λ (y : Outcome). (word_answer (tracker_in a) y).told) e in cc
+    at (Err s) (taken x) e answer numbers =
+        let f = answer ∙ ap (λ (y : Outcome). (word_answer (tracker_in a) y).told) e in cc
+    at (Err s) (refused n) e answer numbers =
+        numbers ∙ ap (λ (y : Outcome). encode_of (word_answer (tracker_in a) y).tracker) e ∙ sym h.is.numbers
 
 -- The payload call.
 pub payload_in_place : {a q b out₀ out after : List ℕ} {r : PayloadTold} → q ≡ a → GoodArray a → Holds after

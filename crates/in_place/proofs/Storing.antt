@@ -29,7 +29,7 @@ use Rattle.tracker_array.specs.Place as P
 use Rattle.tracker_array.specs.Read.{place, tracker_in}
 use Rattle.tracker_array.specs.Good.{GoodArray}
 use Rattle.tracker_array.proofs.Laws.{flag_back}
-use Rattle.in_place.specs.Storing.{stores_of, put_if}
+use Rattle.in_place.specs.Storing.{stores_of, put_if, word_stores}
 
 module _ (t : Tracker) (s : State) (w : Word) where
   -- State and count.
@@ -122,9 +122,7 @@ stores_next t a w = by_kind t a.fsm.state w a.word a.guessed
 
 -- The same on numbers that are a tracker's.
 pub good_next : (l : List ℕ) (a : Advanced) (w : Word) → GoodArray l
-    → stores_of a.word w (position_now (tracker_in l))
-    (sets l P.reached (state_number a.fsm.state ∷ (place l P.count + 1) ∷ []))
-    ≡ encode_of (next_tracker (tracker_in l) a w)
+    → word_stores a w l ≡ encode_of (next_tracker (tracker_in l) a w)
 good_next l a w h =
     ap (λ (x : List ℕ). stores_of a.word w (position_now (tracker_in l))
     (sets x P.reached (state_number a.fsm.state ∷ (place l P.count + 1) ∷ []))) h.is.numbers

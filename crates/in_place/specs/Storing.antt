@@ -1,18 +1,24 @@
--- What a word of each kind stores among the numbers of a tracker, besides state and count: the places that it changes, and no others.
+-- What a word of each kind stores among the numbers of a tracker, besides state and count: the places that it changes, and no others. And the numbers that
+-- a word call in place leaves, by that.
 -- Assumes nothing.
-use Rattle.std.specs.Prelude.{ℕ, Bool, cond, not, ◌&&◌, List, [], ◌∷◌, eqb}
+use Rattle.std.specs.Prelude.{ℕ, ◌+◌, ◌≡◌, Bool, cond, not, ◌&&◌, List, [], ◌∷◌, Result, Ok, Err, eqb}
 use Rattle.std.proofs.lemmas.List.Edits.{sets}
+use Rattle.refusals.specs.declared.Refusal.{Refusal}
 use Rattle.words.specs.declared.Word.{Word}
+use Rattle.words.specs.Word.{word_of}
 use Rattle.words.specs.Ihw.{active_lanes}
 use Rattle.words.specs.Tdh.{trigger_type, trigger_bc, trigger_orbit, internal_trigger, continuation}
 use Rattle.words.specs.Cdw.{user_fields}
 use Rattle.words.specs.Tdt.{packet_done}
+use Rattle.payload_fsm.specs.declared.Advanced.{Advanced}
 use Rattle.payload_fsm.specs.declared.ItsPayloadWord.{ItsPayloadWord}
 use Rattle.payload_fsm.specs.declared.ItsPayloadWord.TheVariants as K
 use Rattle.stored.specs.Stored.{first_cdw}
+use Rattle.cdp_running.specs.declared.Taken.{Taken}
+use Rattle.cdp_running.specs.Word.{taken_as, position_now}
 use Rattle.tracker_array.specs.Place as P
-use Rattle.tracker_array.specs.Array.{is_on}
-use Rattle.tracker_array.specs.Read.{place}
+use Rattle.tracker_array.specs.Array.{is_on, state_number}
+use Rattle.tracker_array.specs.Read.{place, tracker_in}
 
 -- Numbers stored from a place on, if so.
 abbrev pub put_if : Bool → ℕ → List ℕ → List ℕ → List ℕ
@@ -47,3 +53,15 @@ stores_of K.DataWord w here a = data_stores w a
 stores_of K.Cdw w here a = data_stores w a
 stores_of K.Tdt w here a = tdt_stores w a
 stores_of K.Ddw0 w here a = a
+
+-- The numbers after a word that was taken as `taken` says: state and count, and then what its kind stores of it where it stands.
+abbrev pub word_stores : Advanced → Word → List ℕ → List ℕ
+word_stores taken w a =
+    stores_of taken.word w (position_now (tracker_in a))
+    (sets a P.reached (state_number taken.fsm.state ∷ (place a P.count + 1) ∷ []))
+
+-- What a word call leaves of the numbers: a word that is taken leaves its stores in them, and a refusal leaves them as they were.
+abbrev pub WordStores : List ℕ → List ℕ → Result Taken Refusal → List ℕ → Type 0
+WordStores a bytes (Ok told) after =
+    after ≡ word_stores (taken_as (tracker_in a) (word_of bytes)) (word_of bytes) a
+WordStores a bytes (Err refusal) after = after ≡ a

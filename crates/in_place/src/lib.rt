@@ -8,6 +8,7 @@ ghost use Rattle.cdp_running.specs.Told.{told_by};
 ghost use Rattle.payload.specs.Answer.{payload_told_by};
 ghost use Rattle.tracker_array.specs.Good.{GoodArray};
 ghost use Rattle.in_place.specs.Calls.{PacketInPlace, ResetInPlace, WordInPlace, PayloadInPlace};
+ghost use Rattle.in_place.specs.Storing.{WordStores};
 
 mod stores;
 
@@ -43,7 +44,8 @@ pub fn reset(a: &mut [u64])
 #[tactic(auto, using(tracker_memory::proofs::Numbers::good_holds))]
 pub fn word(a: &mut [u64], bytes: &[u8], out: &mut [u64]) -> Result<Taken, Refusal>
     requires { GoodArray a.old }
-    ensures { WordInPlace a.old bytes.now out.old (told_by result) a.new out.new }
+    ensures word { WordInPlace a.old bytes.now out.old (told_by result) a.new out.new }
+    ensures stores { WordStores a.old bytes.now result a.new }
 {
     quick::word(a.as_mut_array::<SIZE>().unwrap(), bytes, out)
 }

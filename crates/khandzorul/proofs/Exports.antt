@@ -2,13 +2,15 @@
 -- Assumes nothing.
 use Prim.Native.Nat.{ℕ, ◌≤◌, ◌<◌, ◌^◌}
 use mathlib.Core.Path.{◌≡◌, refl, ap, sym, ◌∙◌}
-use mathlib.Core.Bool.{Bool, true, false}
+use mathlib.Core.Bool.{Bool, true, false, cond, not}
 use mathlib.Core.List.{List}
-use borrow.Author.Tests.{eqb-true}
+use lib.ListN.{length}
+use borrow.Author.Tests.{eqb-true, eq-eqb, ne_eqb, not-true, not-false}
 use Rattle.words.proofs.Tests.{tests}
 use native.Mathlib.Omega.{arith}
-use Rattle.std.specs.Prelude.{unwrap_or}
+use Rattle.std.specs.Prelude.{Option, unwrap_or}
 use Rattle.std.specs.Bool.{then_some}
+use Rattle.packet.specs.declared.Rule.{Rule}
 use Rattle.packet.specs.declared.Packet.{Packet}
 use Rattle.packet.specs.Settings.{period_of}
 use Rattle.words.specs.Lists.{over}
@@ -16,20 +18,20 @@ use Rattle.records.specs.Records.{flat, room}
 use Rattle.cdp_running.specs.declared.Tracker.{Tracker}
 use Rattle.cdp_running.specs.Told.{Told}
 use Rattle.cdp_running.specs.Told.{Refused}
-use Rattle.cdp_running.specs.Tracker.{reset_of, packet_call}
+use Rattle.cdp_running.specs.Tracker.{start_of, reset_of, packet_call}
 use Rattle.cdp_running.specs.Word as Word
 use Rattle.cdp_running.specs.Word.{word_call, records_in}
 use Rattle.payload.specs.Payload as Payload
 use Rattle.payload.specs.Payload.{payload_call}
-use Rattle.tracker_array.specs.Array.{encode_of, is_on}
+use Rattle.tracker_array.specs.Array.{size, encode_of, written_to, is_on, rule_of}
 use Rattle.tracker_array.specs.Read.{tracker_in, is_tracker}
 use Rattle.tracker_array.specs.Good.{GoodArray}
 use Rattle.tracker_array.proofs.Laws.{tests_decide, read_as, no_tracker_lem, good_array}
 use Rattle.payload.specs.Answer.{PayloadTold}
 use Rattle.in_place.specs.Calls.{PacketInPlace, ResetInPlace, WordInPlace, PayloadInPlace}
 use Rattle.khandzorul.specs.declared.WordNumbers.{WordNumbers}
-use Rattle.khandzorul.specs.Answer.{no_tracker, told_numbers, paid_numbers}
-use Rattle.khandzorul.specs.Calls.{Asked, max_period, are_settings, settings_from, On, PacketOn, ResetOn, WordOn, PayloadOn}
+use Rattle.khandzorul.specs.Answer.{no_tracker, no_settings, told_numbers, paid_numbers}
+use Rattle.khandzorul.specs.Calls.{Asked, max_period, are_settings, settings_from, On, StartOn, PacketOn, ResetOn, WordOn, PayloadOn}
 
 -- A period of settings fits, where there is one.
 pub period_fits : (s : Asked) → are_settings s ≡ true → is_on s.periodic ≡ true → s.period ≤ max_period
@@ -41,6 +43,37 @@ low_period false n low = omega arith
 
 pub settings_fit : (s : Asked) → are_settings s ≡ true → period_of (settings_from s) < 2 ^ 32
 settings_fit s e = low_period (is_on s.periodic) s.period (period_fits s e)
+
+stays : (b : Bool) (a : List ℕ) → a ≡ cond b a a
+stays true a = refl
+stays false a = refl
+
+-- The start, as the code comes to it: another length, numbers that are no settings, and settings part by part.
+module _ (a : List ℕ) (s : Asked) where
+  pub start_none : (length a ≡ size → ⊥) → StartOn a s no_tracker a
+  start_none h = record { answer = simp (ne_eqb _ _ h); tracker = simp (ne_eqb _ _ h) (stays (are_settings s) a) }
+
+  module _ (long : length a ≡ size) {r : Bool} (asked : r ≡ are_settings s) where
+    pub start_refused : not r ≡ true → StartOn a s no_settings a
+    start_refused e =
+        let no = sym asked ∙ not-true r e in record { answer = simp (eq-eqb _ _ long, no); tracker = simp no }
+
+    pub start_done : {t : Tracker} {period : Option ℕ} {rule : Rule} {after : List ℕ} → not r ≡ false
+        → period ≡ then_some (is_on s.periodic) s.period
+        → rule ≡ rule_of s.rule
+        → t ≡ start_of (record { running = is_on s.running; frames = is_on s.frames; period = period; rule = rule })
+        → after ≡ written_to a t → StartOn a s 0 after
+    start_done {t} {period} e k j p q =
+        let yes = sym asked ∙ not-false r e in
+        record {
+          answer = simp (eq-eqb _ _ long, yes);
+          tracker =
+              simp yes
+              (q
+              ∙ ap (written_to a)
+              (p
+              ∙ (λ i. start_of (record { running = is_on s.running; frames = is_on s.frames; period = k i; rule = j i }))));
+        }
 
 -- Whether numbers are a tracker, as the code asks it: r is its answer.
 module _ (a : List ℕ) {r : Bool} (asked : r ≡ is_tracker a) where

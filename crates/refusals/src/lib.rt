@@ -1,4 +1,5 @@
-// Why a call was refused. The numbers are those of 01, "Calls and settings" and "Bench file", of 02 and of include/khandzorul.h: they are said here alone.
+// Why a call was refused. The numbers are those of 01, "Calls and settings" and "Bench file", of 02 and of include/khandzorul.h. `khandzorul` names 100 and 101
+// once more, as C's functions answer them.
 #![tactic(auto)]
 
 ghost use Rattle.refusals.specs.Refusals.{gives_number};

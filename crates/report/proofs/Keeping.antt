@@ -8,7 +8,6 @@ use mathlib.Core.List.{List, [], ◌++◌, append-nil, append_assoc}
 use native.Mathlib.Nat.{add-zero, add_assoc}
 use native.Mathlib.Omega.{arith}
 use lib.ListN.{length, length-append}
-use Rattle.refusals.specs.Refusals.{number}
 use Rattle.words.specs.Word.{word_of}
 use Rattle.packet.specs.declared.Packet.{Packet}
 use Rattle.records.specs.Records.{Record, most_records}
@@ -59,7 +58,7 @@ lines_of rs count = lines rs ++ records_line (count + length rs)
 abbrev rest_at : List ℕ → Report → Stage → List ℕ
 rest_at file r S.Heading = heading ++ lines_of (records_from r.tracker (to_come file r)) r.count
 rest_at file r S.Items = lines_of (records_from r.tracker (to_come file r)) r.count
-rest_at file r (S.Refused refusal) = refused_line (number refusal)
+rest_at file r (S.Refused n) = refused_line n
 rest_at file r S.Done = []
 
 unfoldable pub rest_of : List ℕ → Report → List ℕ
@@ -69,7 +68,7 @@ rest_of file r = rest_at file r r.stage
 is_done_lem : (s : Stage) → is_done s ≡ true → s ≡ S.Done
 is_done_lem S.Heading e = cc
 is_done_lem S.Items e = cc
-is_done_lem (S.Refused refusal) e = cc
+is_done_lem (S.Refused n) e = cc
 is_done_lem S.Done e = refl
 
 module _ (file : List ℕ) where
@@ -119,8 +118,8 @@ module _ (file : List ℕ) where
         less = λ _. omega arith;
       }
   stage S.Items r g = item (at_stage S.Items r) g.tracker (g.going refl) _ refl
-  stage (S.Refused refusal) r g =
-      record { good = all_done r g.tracker; front = append-nil (refused_line (number refusal)); less = λ _. omega arith }
+  stage (S.Refused n) r g =
+      record { good = all_done r g.tracker; front = append-nil (refused_line n); less = λ _. omega arith }
   stage S.Done r g = record { good = g; front = refl; less = λ e. absurd (true≢false e) }
 
   pub laws : Laws (printer file) (rest_of file) (steps_left file)

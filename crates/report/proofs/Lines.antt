@@ -81,14 +81,15 @@ module _ {records start : List ℕ} where
       sym (append-nil p.passed) ∙ ap (λ (n : ℕ). p.passed ++ records_at n rest) (sym none) ∙ p.whole in
       subst (λ (rs : List Record). Puts (lines rs) start used out) whole p.puts
 
--- Records that were written are those of the numbers.
-records_written : (rs : List Record) → records_at (length rs) (flat rs) ≡ rs
+-- Records that were written stand there, and are those of the numbers.
+pub records_written : (rs : List Record) (d : List ℕ) → records_at (length rs) (flat rs ++ d) ≡ rs
 unfolding records_at flat
-records_written [] = refl
-records_written (r ∷ rs) = ap (λ (l : List Record). r ∷ l) (records_written rs)
+records_written [] d = refl
+records_written (r ∷ rs) d = ap (λ (l : List Record). r ∷ l) (records_written rs d)
 
 pub all_written : (rs : List Record) (d : List ℕ) → all_records (take (record_width * length rs) (flat rs ++ d)) ≡ rs
 all_written rs d =
     let long = length_flat rs in
     let n : length (flat rs) / record_width ≡ length rs = omega arith in
-    rw (sym long, take-append_seam) (ap (λ (k : ℕ). records_at k (flat rs)) n ∙ records_written rs)
+    rw (sym long, take-append_seam)
+    (ap (λ (k : ℕ). records_at k (flat rs)) n ∙ ap (records_at (length rs)) (sym (append-nil (flat rs))) ∙ records_written rs [])

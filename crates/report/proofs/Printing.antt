@@ -10,7 +10,6 @@ use lib.Dec.{eqb}
 use lib.ListN.{length}
 use Rattle.bench_file.specs.File.{check_of}
 use Rattle.bench_file.specs.Items.{items}
-use Rattle.bench_file.proofs.Known.{check_known}
 use Rattle.bench_file.proofs.Reading.{all_to_come}
 use Rattle.ascii.specs.Steps.{StepPost, Steps}
 use Rattle.ascii.proofs.Steps.{Ends, onward, steps_print, ends}
@@ -41,7 +40,7 @@ start_left file = at (eqb (check_of file) 0) refl
   where
     at : (b : Bool) → eqb (check_of file) 0 ≡ b → AllLeft file
     at true e = (simp (e, all_to_come file, zero-add), simp e (omega (arith, ap length (all_to_come file))))
-    at false e = (simp (e, check_known file e), simp e (omega arith))
+    at false e = (simp e, simp e (omega arith))
 
 -- What the steps print is the text of the file, whatever the sizes of the buffers; they are at most as many as the file has packets, words and two.
 module _ (file : List ℕ) {n : ℕ} {out : List ℕ} (steps : Steps (printer file) (start_report file) n out) where

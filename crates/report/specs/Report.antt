@@ -1,7 +1,6 @@
 -- A report of a file on the way: what each step prints.
 -- Assumes nothing.
 use Rattle.std.specs.Prelude.{ℕ, ◌+◌, ◌-◌, ◌*◌, ◌^◌, ◌≤◌, ◌≡◌, Bool, true, false, cond, List, [], Option, Some, None, eqb, length}
-use Rattle.refusals.specs.Refusals.{number, of_number}
 use Rattle.words.specs.Word.{word_bytes}
 use Rattle.records.specs.Records.{most_records}
 use Rattle.cdp_running.specs.Tracker.{Good, start_of}
@@ -19,7 +18,7 @@ use Rattle.report.specs.File.{settings, tracker_after, records_after}
 
 -- The start: the whole file was checked, and nothing is printed yet.
 abbrev pub first_stage : ℕ → Stage
-first_stage refusal = cond (eqb refusal 0) S.Heading (S.Refused (of_number refusal))
+first_stage refusal = cond (eqb refusal 0) S.Heading (S.Refused refusal)
 
 unfoldable pub start_report : List ℕ → Report
 start_report file =
@@ -67,7 +66,7 @@ item_step file r None = record { next = at_stage S.Done r; text = records_line r
 abbrev pub stage_step : List ℕ → Report → Stage → Printed Report
 stage_step file r S.Heading = record { next = at_stage S.Items r; text = heading }
 stage_step file r S.Items = item_step file r (next_found file r.packet r.word r.left)
-stage_step file r (S.Refused refusal) = record { next = at_stage S.Done r; text = refused_line (number refusal) }
+stage_step file r (S.Refused n) = record { next = at_stage S.Done r; text = refused_line n }
 stage_step file r S.Done = nothing r
 
 unfoldable pub step_of : List ℕ → Report → Printed Report
@@ -77,14 +76,14 @@ step_of file r = stage_step file r r.stage
 abbrev pub is_done : Stage → Bool
 is_done S.Heading = false
 is_done S.Items = false
-is_done (S.Refused refusal) = false
+is_done (S.Refused n) = false
 is_done S.Done = true
 
 -- At most so many steps are left.
 abbrev pub steps_at : ℕ → Stage → ℕ
 steps_at n S.Heading = n + 2
 steps_at n S.Items = n + 1
-steps_at n (S.Refused refusal) = 1
+steps_at n (S.Refused number) = 1
 steps_at n S.Done = 0
 
 unfoldable pub steps_left : List ℕ → Report → ℕ
@@ -94,7 +93,7 @@ steps_left file r = steps_at (length (to_come file r)) r.stage
 abbrev pub reading : Stage → Bool
 reading S.Heading = true
 reading S.Items = true
-reading (S.Refused refusal) = false
+reading (S.Refused n) = false
 reading S.Done = false
 
 -- The invariant of a report of a file, which the start and every step give: its tracker is a good one; and while packets and words are read, the file is

@@ -5,8 +5,8 @@ ghost use Rattle.std.specs.Prelude.{◌≡◌, ◌≤◌, Some, length, OnOk};
 ghost use Rattle.std.specs.Io.KnownBytes.{Appends};
 ghost use Rattle.std.proofs.Common.{rules};
 ghost use Rattle.refusals.specs.Refusals.{code};
-ghost use Rattle.cdp_running.specs.Told.{packet_answered, word_answered};
-ghost use Rattle.cdp_running.specs.Answer.{records_told};
+ghost use Rattle.cdp_running.specs.Told.{packet_answered, told_by};
+ghost use Rattle.cdp_running.specs.Answer.{numbers_of};
 ghost use Rattle.cdp_running.specs.Tracker.{Good};
 ghost use Rattle.bench_file.specs.Reader.{next_found};
 ghost use Rattle.bench_file.specs.declared.Found.TheVariants as F;
@@ -22,9 +22,9 @@ use ascii::printing::{self, ByStep, Filled};
 use bench_file::Found;
 use cdp_running::{Taken, Tracker};
 use packet::{Packet, Rule, Settings};
+use payload::quick;
 use refusals::Refusal;
 use std::io::{self, Write};
-use tracker_memory::WordCall;
 use words::Word;
 
 // The most bytes that a step prints: the lines of a word's records, of numbers with 20 digits.
@@ -39,7 +39,7 @@ pub const PERIOD: u32 = 198;
 pub enum Stage {
     Heading,
     Items,
-    Refused(Refusal),
+    Refused(u8),
     Done,
 }
 
@@ -54,13 +54,13 @@ pub struct Report {
     pub count: u64,
 }
 
-#[tactic(auto, using(refusals::proofs::Numbers::refused, refusals::proofs::Numbers::back))]
+#[tactic(auto, using(refusals::proofs::Numbers::refused))]
 fn first_stage(checked: Result<(), Refusal>) -> Stage
     ensures { result ≡ first_stage (code checked) }
 {
     match checked {
         Ok(()) => Stage::Heading,
-        Err(refusal) => Stage::Refused(refusal),
+        Err(refusal) => Stage::Refused(u8::from(refusal)),
     }
 }
 
@@ -81,22 +81,12 @@ fn after_packet(t: Tracker, answer: Result<Tracker, Refusal>) -> Tracker
     }
 }
 
-// The same of a word.
-fn after_word(t: Tracker, answer: Result<(Tracker, Taken), Refusal>) -> Tracker
-    ensures { result ≡ (word_answered t answer).tracker }
-{
-    match answer {
-        Ok((next, _)) => next,
-        Err(_) => t,
-    }
-}
-
 // How many records a word gave; none at a refusal.
-fn records_given(answer: Result<(Tracker, Taken), Refusal>) -> u64
-    ensures { result ≡ records_told answer }
+fn records_given(answer: Result<Taken, Refusal>) -> u64
+    ensures { result ≡ (numbers_of (told_by answer)).records }
 {
     match answer {
-        Ok((_, taken)) => taken.records,
+        Ok(taken) => taken.records,
         Err(_) => 0,
     }
 }
@@ -123,13 +113,14 @@ fn word_step(r: Report, file: &[u8], at: usize, out: &mut [u8]) -> Filled<Report
     ensures { Prints (item_step file.now r (Some (F.Word at))) out.old result.next result.n out.new }
 {
     let mut numbers = [0u64; records::MOST_RECORDS * records::RECORD_WIDTH];
-    let answer = r.tracker.word(&file[at..at + Word::SIZE], &mut numbers);
+    let mut tracker = r.tracker;
+    let answer = quick::word(&mut tracker, &file[at..at + Word::SIZE], &mut numbers);
     let given = records_given(answer);
     Filled {
         n: text::put_lines(out, &numbers[..records::RECORD_WIDTH * given as usize]),
         next: Report {
             stage: Stage::Items,
-            tracker: after_word(r.tracker, answer),
+            tracker,
             word: bench_file::word_after(file, r.packet, r.word),
             left: r.left - 1,
             count: r.count + given,
@@ -171,8 +162,8 @@ fn stage_step(r: Report, file: &[u8], out: &mut [u8]) -> Filled<Report>
             next: at_stage(r, Stage::Items),
         },
         Stage::Items => item_step(r, file, out),
-        Stage::Refused(refusal) => Filled {
-            n: ascii::put_named(out, b"refused ", u8::from(refusal) as u64, ascii::NEWLINE),
+        Stage::Refused(number) => Filled {
+            n: ascii::put_named(out, b"refused ", number as u64, ascii::NEWLINE),
             next: at_stage(r, Stage::Done),
         },
         Stage::Done => Filled { next: r, n: 0 },

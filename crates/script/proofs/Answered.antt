@@ -18,14 +18,13 @@ use Rattle.bench_writer.specs.declared.Draft.{Draft}
 use Rattle.bench_writer.specs.Content.{Entry, header, Fine}
 use Rattle.bench_writer.specs.Draft.{size, draft_of, put_at, Holds}
 use Rattle.bench_writer.proofs.Holding.{start_holds, finish_file}
-use Rattle.refusals.specs.Refusals.{code_if}
 use Rattle.script.specs.declared.Reading.{Reading}
 use Rattle.script.specs.declared.Answer.{Answer}
 use Rattle.script.specs.Line.{Unreadable, Line, line_with, line_of}
 use Rattle.script.specs.Taking.{refused_line, refusal_by, entries_by}
 use Rattle.script.specs.Outcome.{in_first, lines_of, hash, uncommented, most_line, said_by, refusal_in, entries_in, refused_text, IsAnswer}
 use Rattle.script.specs.Outcome.{Outcome, made, refused, outcome_from, outcome_of, outcome_refusal, answer_bytes, answer_of}
-use Rattle.script.specs.Feeding.{State, progress, state_of, begun, last_line, next_line, held_line, refused_with, line_refusal, line_taken, line_refused, ended}
+use Rattle.script.specs.Feeding.{State, state_of, begun, last_line, next_line, held_line, refused_with, line_refusal, line_taken, line_refused, ended}
 use Rattle.script.specs.Feeding.{with_used, holding, in_comment, fed_byte, fed, fed_all, whole, HasRead, FinishPost}
 use Rattle.script.proofs.Pieces.{fed_whole}
 use Rattle.script.proofs.Fed.{stays, refused_is, taken_is, byte_stays, byte_ends, byte_commented, byte_held}
@@ -313,14 +312,14 @@ unfolding answer_of
 answered buffer held pieces long long-held short a after = said (ends_so buffer held pieces long long-held short)
 
 -- The refusal beside it is that of the text, or 0.
-said_refusal : {s : State} {o : Outcome} {a : Answer} {after : List ℕ} → Final s o → FinishPost s a after → code_if a.refusal ≡ outcome_refusal o
+said_refusal : {s : State} {o : Outcome} {a : Answer} {after : List ℕ} → Final s o → FinishPost s a after → a.refusal ≡ outcome_refusal o
 said_refusal (with_file zero holds) post = post.refusal_is ∙ zero
 said_refusal (with_line some refusal line) post = post.refusal_is ∙ refusal
 
 pub answered_refusal : (buffer held : List ℕ) (pieces : List (List ℕ)) → length buffer ≡ most_bytes → length held ≡ most_line
     → suc (length (whole pieces)) < last_line
     → (a : Answer) (after : List ℕ) → FinishPost (fed_all (state_of buffer held begun) pieces) a after
-    → code_if a.refusal ≡ outcome_refusal (outcome_of (whole pieces))
+    → a.refusal ≡ outcome_refusal (outcome_of (whole pieces))
 answered_refusal buffer held pieces long long-held short a after = said_refusal (ends_so buffer held pieces long long-held short)
 
 -- What is made is fine, and a refusal is a number above 0.
@@ -345,7 +344,7 @@ fine text short =
 -- For a caller that has read a text in pieces.
 pub is_answer : {buffer₀ held₀ buffer held after : List ℕ} {r : Reading} {a : Answer} → length buffer₀ ≡ most_bytes → length held₀ ≡ most_line
     → HasRead buffer₀ held₀ buffer held r
-    → FinishPost (state_of buffer held (progress r)) a after
+    → FinishPost (state_of buffer held r) a after
     → IsAnswer (take a.n after)
 is_answer {buffer₀} {held₀} {after = after} {a = a} long long-held read post =
     record {

@@ -121,6 +121,20 @@ too_large base text is n i d h e low large r =
     ∙ sym (ap (read_as base n) (drop-cons text i 0 h))
     ∙ r.same
 
+-- What is to be read from a place on, where a byte is no digit, and where a number passes the last one with it.
+pub no_digit_at : (base n i : ℕ) (text : List ℕ) → i < length text → base ≤ digit_of (get_or text i 0) → read_as base n (drop i text) ≡ None
+no_digit_at base n i text h high =
+    ap (read_as base n) (drop-cons text i 0 h)
+    ∙ digit_read base text n i (digit_of (get_or text i 0)) refl (le-ltb (digit_of (get_or text i 0)) base high)
+
+pub too_large_at : (base n i : ℕ) (text : List ℕ) → IsBase base → i < length text → digit_of (get_or text i 0) < base
+    → 2 ^ 64 ≤ n * base + digit_of (get_or text i 0)
+    → read_as base n (drop i text) ≡ None
+too_large_at base n i text is h low large =
+    ap (read_as base n) (drop-cons text i 0 h)
+    ∙ digit_read base text n i (digit_of (get_or text i 0)) refl (lt-ltb (digit_of (get_or text i 0)) base low)
+    ∙ over base is (drop (suc i) text) (n * base + digit_of (get_or text i 0)) large
+
 -- The same as the library tells it, of a byte, its digit, and the number with it.
 module _ {base n i byte : ℕ} {text : List ℕ} (is : IsBase base) (h : i < length text) (at : byte ≡ get_or text i 0) (r : Reading base text n i) where
   pub no_digit_told : (digit_value byte < base → ⊥) → None ≡ read_as base 0 text
@@ -151,6 +165,16 @@ module _ {base n i byte : ℕ} {text : List ℕ} (is : IsBase base) (h : i < len
       pub turn_told : {x : ℕ} → a + e < 2 ^ 64 → x ≡ a + e → Reading base text x (i + 1)
       turn_told small x-is =
           subst (λ (k : ℕ). Reading base text k (i + 1)) (sym (x-is ∙ sum-is)) (turn base text n i d h d-same d-low (omega (arith, small, sum-is)) r)
+
+  -- The same of the product and the sum, where both are made.
+  module _ {p e : ℕ} (low : digit_value byte < base) (p-is : p ≡ n * base) (e-is : e ≡ digit_value byte) where
+    pub sum_passed : (p + e < 2 ^ 64 → ⊥) → None ≡ read_as base 0 text
+    sum_passed = sum_told low refl refl p-is e-is
+
+  -- A digit more.
+  pub one_more : {x : ℕ} → digit_value byte < base → x ≡ n * base + digit_value byte → x < 2 ^ 64 → Reading base text x (i + 1)
+  one_more low x-is small =
+      turn_told {d = digit_value byte} {m = base} low refl refl {a = n * base} {e = digit_value byte} refl refl (omega (arith, small, x-is)) x-is
 
 -- The test before a digit is added tells whether the number passes the last one.
 pub fits : (base n d : ℕ) → IsBase base → n ≤ (2 ^ 64 - 1 - d) / base → d < base → n * base + d < 2 ^ 64

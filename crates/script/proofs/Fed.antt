@@ -1,11 +1,11 @@
 -- What the end of a line, a byte and a piece of a text do to what the reader holds.
 -- Assumes nothing.
 use Rattle.std.proofs.Common.{ℕ, ◌+◌, ◌≤◌, ◌<◌, ◌≡◌, refl, sym, ap, ap₂, ◌∙◌, subst, Bool, true, false, cond, ◌||◌, ltb, eqb, List, length, drop}
-use Rattle.std.proofs.Common.{get_or, set, length-set, drop_of_length-le, drop-cons, add-one, Option, None, Some, is_some, Result, Ok, Err, true≢false}
+use Rattle.std.proofs.Common.{get_or, set, length-set, drop_of_length-le, drop-cons, add-one, Result, Ok, Err}
 use Rattle.std.proofs.Common.{arith}
 use borrow.Author.Tests.{eq-eqb, ne_eqb, ltb-true}
 use Rattle.refusals.specs.declared.Refusal.{Refusal}
-use Rattle.refusals.specs.Refusals.{number, code_if}
+use Rattle.refusals.specs.Refusals.{number}
 use Rattle.ascii.specs.Text.{newline, Puts}
 use Rattle.bench_file.specs.File.{most_bytes}
 use Rattle.bench_writer.specs.declared.Draft.{Draft}
@@ -14,35 +14,25 @@ use Rattle.bench_writer.specs.Draft as B
 use Rattle.script.specs.declared.Reading.{Reading}
 use Rattle.script.specs.Taking.{buffer_by, draft_by, TakePost}
 use Rattle.script.specs.Outcome.{hash, most_line, refused_text}
-use Rattle.script.specs.Feeding.{Progress, progress, State, state_of, GoodReading, next_line, held_line, refused_with, line_refusal, line_taken}
+use Rattle.script.specs.Feeding.{State, state_of, GoodReading, next_line, held_line, refused_with, line_refusal, line_taken}
 use Rattle.script.specs.Feeding.{line_refused, ended, with_used, holding, in_comment, fed_byte, fed, ReadPost, answer_length}
 use Rattle.script.specs.Feeding.{answer_in, FinishPost}
 use Rattle.script.proofs.Taken.{some_number}
-
--- Whether there is a refusal, as a number.
-pub is_refused : (o : Option Refusal) → is_some o ≡ true → code_if o ≡ 0 → ⊥
-is_refused None h e = true≢false (sym h)
-is_refused (Some r) h e = some_number r e
-
-pub not_refused : (o : Option Refusal) → is_some o ≡ false → code_if o ≡ 0
-not_refused None h = refl
-not_refused (Some r) h = absurd (true≢false h)
 
 -- The invariant of what the reader holds.
 abbrev pub Good : State → Type 0
 Good s = GoodReading s.buffer s.held s.reading
 
 -- A call that leaves a state.
-pub read : {next : State} (s : State) {r : Reading} {buffer held : List ℕ} → next ≡ s → progress r ≡ s.reading → buffer ≡ s.buffer → held ≡ s.held
+pub read : {next : State} (s : State) {r : Reading} {buffer held : List ℕ} → next ≡ s → r ≡ s.reading → buffer ≡ s.buffer → held ≡ s.held
     → Good s
     → ReadPost next r buffer held
-read s {r} {buffer} {held} e er eb eh good =
-    let same : state_of buffer held (progress r) ≡ s = λ j. state_of (eb j) (eh j) (er j) in
+read s e er eb eh good =
     record {
       reading_is = er ∙ ap (λ (x : State). x.reading) (sym e);
       buffer_is = eb ∙ ap (λ (x : State). x.buffer) (sym e);
       held_is = eh ∙ ap (λ (x : State). x.held) (sym e);
-      good = subst Good (sym same) good;
+      good = rw (er, eb, eh) good;
     }
 
 pub read_as : {next : State} (s : State) {r : Reading} {buffer held : List ℕ} → next ≡ s → ReadPost s r buffer held → ReadPost next r buffer held
@@ -64,7 +54,7 @@ taken_is s none zero = simp (eq-eqb s.reading.refusal 0 none, eq-eqb (line_refus
 pub line_stopped : (s : State) (a : Result Draft Refusal) {x : Refusal} {after : List ℕ} {r : Reading} → Good s → s.reading.refusal ≡ 0
     → TakePost (held_line s) s.reading.draft s.buffer a after
     → a ≡ Err x
-    → progress r ≡ refused_with (number x) s.reading
+    → r ≡ refused_with (number x) s.reading
     → ReadPost (ended s) r after s.held
 line_stopped s a {x} good none post is e =
     let refusal : line_refusal s (held_line s) ≡ number x =
@@ -79,7 +69,7 @@ pub line_ended : (s : State) (a : Result Draft Refusal) {d : Draft} {after : Lis
     → TakePost (held_line s) s.reading.draft s.buffer a after
     → a ≡ Ok d
     → line ≡ next_line s.reading.line
-    → progress r ≡ record { draft = d; line = line; used = 0; comment = false; refusal = 0 }
+    → r ≡ record { draft = d; line = line; used = 0; comment = false; refusal = 0 }
     → ReadPost (ended s) r after s.held
 line_ended s a {d} {after} good none post is e r-is =
     let l = held_line s in
@@ -89,7 +79,7 @@ line_ended s a {d} {after} good none post is e r-is =
     let draft : d ≡ draft_by l.kind s.reading.draft = sym (ap (λ (x : Added). x.draft) same) ∙ post.draft_is ∙ simp test in
     let buffer : after ≡ buffer_by l.kind l.n s.reading.draft s.buffer = post.buffer_is ∙ simp test in
     read (line_taken s l) (taken_is s none zero)
-    (r-is ∙ ap₂ {C = Progress} (λ (d : Draft) (n : ℕ). record { draft = d; line = n; used = 0; comment = false; refusal = 0 }) draft e)
+    (r-is ∙ ap₂ {C = Reading} (λ (d : Draft) (n : ℕ). record { draft = d; line = n; used = 0; comment = false; refusal = 0 }) draft e)
     buffer
     refl
     (record {
@@ -134,7 +124,7 @@ good_held s b good = by_room (ltb s.reading.used most_line) refl
     by_room false e = record { draft = good.draft; long = good.long; few = good.few }
 
 -- A piece, from its place i on.
-pub record Going (s : State) (piece : List ℕ) (buffer held : List ℕ) (r : Progress) (i : ℕ) : Type 0 where
+pub record Going (s : State) (piece : List ℕ) (buffer held : List ℕ) (r : Reading) (i : ℕ) : Type 0 where
   pub within : i ≤ length piece
   pub good : GoodReading buffer held r
   pub same : fed s piece ≡ fed (state_of buffer held r) (drop i piece)
@@ -142,14 +132,14 @@ pub record Going (s : State) (piece : List ℕ) (buffer held : List ℕ) (r : Pr
 pub going : (s : State) (piece : List ℕ) → Good s → Going s piece s.buffer s.held s.reading 0
 going s piece good = record { within = omega arith; good = good; same = refl }
 
-pub further : (s : State) (piece buffer held : List ℕ) (r : Progress) (i : ℕ) {r' : Reading} {buffer' held' : List ℕ} → i < length piece
+pub further : (s : State) (piece buffer held : List ℕ) (r : Reading) (i : ℕ) {r' : Reading} {buffer' held' : List ℕ} → i < length piece
     → Going s piece buffer held r i
     → ReadPost (fed_byte (state_of buffer held r) (get_or piece i 0)) r' buffer' held'
-    → Going s piece buffer' held' (progress r') (i + 1)
+    → Going s piece buffer' held' r' (i + 1)
 unfolding fed
 further s piece buffer held r i {r'} {buffer'} {held'} more g post =
     let next = fed_byte (state_of buffer held r) (get_or piece i 0) in
-    let is : state_of buffer' held' (progress r') ≡ next = λ j. state_of (post.buffer_is j) (post.held_is j) (post.reading_is j) in
+    let is : state_of buffer' held' r' ≡ next = λ j. state_of (post.buffer_is j) (post.held_is j) (post.reading_is j) in
     record {
       within = omega arith;
       good = post.good;
@@ -158,46 +148,41 @@ further s piece buffer held r i {r'} {buffer'} {held'} more g post =
           ∙ ap₂ (λ (x : State) (k : ℕ). fed x (drop k piece)) (sym is) (sym (add-one i));
     }
 
-pub all_read : (s : State) (piece buffer held : List ℕ) (r : Reading) (i : ℕ) → length piece ≤ i → Going s piece buffer held (progress r) i
+pub all_read : (s : State) (piece buffer held : List ℕ) (r : Reading) (i : ℕ) → length piece ≤ i → Going s piece buffer held r i
     → ReadPost (fed s piece) r buffer held
 unfolding fed
 all_read s piece buffer held r i end g =
-    read (state_of buffer held (progress r)) (g.same ∙ ap (fed (state_of buffer held (progress r))) (drop_of_length-le piece end)) refl refl refl g.good
+    read (state_of buffer held r) (g.same ∙ ap (fed (state_of buffer held r)) (drop_of_length-le piece end)) refl refl refl g.good
 
 -- The answer: a file, or the line that says the refusal.
-pub file_answer : (s : State) {last : Reading} {made after : List ℕ} {n : ℕ} → ReadPost (ended s) last made s.held → last.refusal ≡ None
+pub file_answer : (s : State) {last : Reading} {made after : List ℕ} {n : ℕ} → ReadPost (ended s) last made s.held → last.refusal ≡ 0
     → B.FinishPost last.draft made n after
     → length after ≡ length made
-    → FinishPost s (record { n = n; refusal = last.refusal }) after
-file_answer s {last} {made} {after} {n} r none file kept =
-    let zero = ap code_if none in
-    let short = r.good.draft.short in
-    let long = r.good.draft.long in
-    let long-file : n ≡ answer_length (progress last) = file.length_is ∙ simp (eq-eqb (code_if last.refusal) 0 zero) in
-    let file-is : after ≡ answer_in (progress last) made = file.buffer_is ∙ simp (eq-eqb (code_if last.refusal) 0 zero) in
+    → FinishPost s (record { n = n; refusal = 0 }) after
+file_answer s {last} {made} {after} {n} read zero file kept =
+    let short = read.good.draft.short in
+    let long = read.good.draft.long in
+    let long-file : n ≡ answer_length last = file.length_is ∙ simp (eq-eqb last.refusal 0 zero) in
+    let file-is : after ≡ answer_in last made = file.buffer_is ∙ simp (eq-eqb last.refusal 0 zero) in
     record {
-      refusal_is = ap (λ (x : Progress). x.refusal) r.reading_is;
-      length_is = long-file ∙ ap answer_length r.reading_is;
-      buffer_is = file-is ∙ ap₂ answer_in r.reading_is r.buffer_is;
+      refusal_is = sym zero ∙ ap (λ (r : Reading). r.refusal) read.reading_is;
+      length_is = long-file ∙ ap answer_length read.reading_is;
+      buffer_is = file-is ∙ ap₂ answer_in read.reading_is read.buffer_is;
       within = omega (arith, short, long, kept, file.length_is);
     }
 
-pub line_answer : (s : State) {last : Reading} {x : Refusal} {made after : List ℕ} {n : ℕ} → ReadPost (ended s) last made s.held
-    → last.refusal ≡ Some x
-    → Puts (refused_text (number x) last.line) made n after
+pub line_answer : (s : State) {last : Reading} {made after : List ℕ} {n : ℕ} → ReadPost (ended s) last made s.held → (last.refusal ≡ 0 → ⊥)
+    → Puts (refused_text last.refusal last.line) made n after
     → n ≤ most_bytes
     → length after ≡ length made
     → FinishPost s (record { n = n; refusal = last.refusal }) after
-line_answer s {last} {x} {made} {after} {n} r some line few kept =
-    let is : number x ≡ code_if last.refusal = ap code_if (sym some) in
-    let refused : code_if last.refusal ≡ 0 → ⊥ = λ z. some_number x (is ∙ z) in
-    let long = r.good.draft.long in
-    let puts = subst (λ (k : ℕ). Puts (refused_text k last.line) made n after) is line in
-    let long-line : n ≡ answer_length (progress last) = puts.count ∙ simp (ne_eqb (code_if last.refusal) 0 refused) in
-    let line-is : after ≡ answer_in (progress last) made = puts.buffer_is ∙ simp (ne_eqb (code_if last.refusal) 0 refused) in
+line_answer s {last} {made} {after} {n} read some line few kept =
+    let long = read.good.draft.long in
+    let long-line : n ≡ answer_length last = line.count ∙ simp (ne_eqb last.refusal 0 some) in
+    let line-is : after ≡ answer_in last made = line.buffer_is ∙ simp (ne_eqb last.refusal 0 some) in
     record {
-      refusal_is = ap (λ (x : Progress). x.refusal) r.reading_is;
-      length_is = long-line ∙ ap answer_length r.reading_is;
-      buffer_is = line-is ∙ ap₂ answer_in r.reading_is r.buffer_is;
+      refusal_is = ap (λ (r : Reading). r.refusal) read.reading_is;
+      length_is = long-line ∙ ap answer_length read.reading_is;
+      buffer_is = line-is ∙ ap₂ answer_in read.reading_is read.buffer_is;
       within = omega (arith, long, kept, few);
     }

@@ -1,9 +1,7 @@
 -- Uniqueness: the contracts that are records determine the answer and the lent buffers (the others are equations).
 -- Assumes nothing.
-use Rattle.std.proofs.Common.{ℕ, ◌≡◌, refl, sym, ap, List, Option, None, Some, Result}
+use Rattle.std.proofs.Common.{ℕ, ◌≡◌, List, Result}
 use Rattle.refusals.specs.declared.Refusal.{Refusal}
-use Rattle.refusals.specs.Refusals.{code_if}
-use Rattle.refusals.proofs.Numbers.{same_number}
 use Rattle.words.proofs.Unique.{unique}
 use Rattle.writer.specs.declared.WordKind.{WordKind}
 use Rattle.writer.specs.Write.{WritePost}
@@ -15,8 +13,7 @@ use Rattle.script.specs.declared.Answer.{Answer}
 use Rattle.script.specs.Asked.{asked_of}
 use Rattle.script.specs.Line.{Line}
 use Rattle.script.specs.Taking.{TakePost}
-use Rattle.script.specs.Feeding.{Progress, progress, State, ReadPost, FinishPost}
-use Rattle.script.proofs.Taken.{some_number}
+use Rattle.script.specs.Feeding.{State, ReadPost, FinishPost}
 
 pub write_unique : (k : WordKind) (n : List ℕ) {slice after after' : List ℕ} {r r' : ℕ}
     → WritePost (asked_of k n).fits (asked_of k n).bytes slice r after
@@ -29,26 +26,15 @@ pub take_unique : (l : Line) (d : Draft) (buffer : List ℕ) {r r' : Result Draf
     → (r ≡ r') × (after ≡ after')
 take_unique l d buffer {r} {r'} a b = let both = added_unique a b in (same_told d r r' both.0, both.1)
 
-same_refusal : (a b : Option Refusal) → code_if a ≡ code_if b → a ≡ b
-same_refusal None None e = refl
-same_refusal None (Some y) e = absurd (some_number y (sym e))
-same_refusal (Some x) None e = absurd (some_number x e)
-same_refusal (Some x) (Some y) e = ap Some (same_number x y e)
-
-same_reading : (r r' : Reading) → progress r ≡ progress r' → r ≡ r'
-same_reading r r' e =
-    let refusals = same_refusal r.refusal r'.refusal (ap (λ (x : Progress). x.refusal) e) in
-    λ i. record { draft = (e i).draft; line = (e i).line; used = (e i).used; comment = (e i).comment; refusal = refusals i }
-
 pub read_unique : {next : State} {r r' : Reading} {buffer buffer' held held' : List ℕ} → ReadPost next r buffer held
     → ReadPost next r' buffer' held'
     → (r ≡ r') × ((buffer ≡ buffer') × (held ≡ held'))
 read_unique a b =
-    (same_reading _ _ (unique a.reading_is b.reading_is), (unique a.buffer_is b.buffer_is, unique a.held_is b.held_is))
+    (unique a.reading_is b.reading_is, (unique a.buffer_is b.buffer_is, unique a.held_is b.held_is))
 
 pub finish_unique : {s : State} {r r' : Answer} {after after' : List ℕ} → FinishPost s r after → FinishPost s r' after'
     → (r ≡ r') × (after ≡ after')
 finish_unique a b =
-    let refusals = same_refusal _ _ (unique a.refusal_is b.refusal_is) in
+    let refusals = unique a.refusal_is b.refusal_is in
     let lengths = unique a.length_is b.length_is in
     (λ i. record { n = lengths i; refusal = refusals i }, unique a.buffer_is b.buffer_is)

@@ -3,14 +3,13 @@
 #![tactic(auto)]
 
 ghost use Rattle.std.specs.Prelude.{◌≡◌, ◌≤◌, length};
-ghost use Rattle.refusals.specs.Refusals.{number};
 ghost use Rattle.ascii.specs.Text.{Puts};
 ghost use Rattle.bench_file.specs.File.{most_bytes};
 ghost use Rattle.bench_writer.specs.Draft.{GoodDraft};
 ghost use Rattle.script.specs.Line.{Word, line_of};
 ghost use Rattle.script.specs.Taking.{packet_of, TakePost};
 ghost use Rattle.script.specs.Outcome.{most_line, refused_text};
-ghost use Rattle.script.specs.Feeding.{state_of, progress, begun, GoodReading, next_line, ended, reading_after, held_after};
+ghost use Rattle.script.specs.Feeding.{state_of, begun, GoodReading, next_line, ended, reading_after, held_after};
 ghost use Rattle.script.specs.Feeding.{fed_byte, fed, ReadPost, FinishPost};
 
 pub mod line;
@@ -28,33 +27,33 @@ use writer::WordKind;
 pub const MOST_LINE: usize = 512;
 
 // How far a text was read: the file so far, the number of the line at hand, from 1, how many bytes of it are held, whether its comment has begun, and the
-// refusal that ended it.
+// refusal that ended it, or 0.
 #[derive(Clone, Copy)]
 pub struct Reading {
     pub draft: Draft,
     pub line: u64,
     pub used: usize,
     pub comment: bool,
-    pub refusal: Option<Refusal>,
+    pub refusal: u8,
 }
 
-// What stands at the front of the buffer: the file, or the line that says its refusal; and how many bytes that is.
+// What stands at the front of the buffer, and how many bytes that is: the file where the refusal is 0, else the line that says so.
 #[derive(Clone, Copy)]
 pub struct Answer {
     pub n: usize,
-    pub refusal: Option<Refusal>,
+    pub refusal: u8,
 }
 
 // Nothing was read yet.
 pub fn start() -> Reading
-    ensures { progress result ≡ begun }
+    ensures { result ≡ begun }
 {
     Reading {
         draft: bench_writer::start(),
         line: 1,
         used: 0,
         comment: false,
-        refusal: None,
+        refusal: 0,
     }
 }
 
@@ -112,10 +111,10 @@ fn next_line(line: u64) -> u64
 // The line that is held ends.
 #[tactic(auto, unfolding(crate::specs::Feeding::ended))]
 fn end_line(buffer: &mut [u8], held: &[u8], r: Reading) -> Reading
-    requires { GoodReading buffer.old held.now (progress r) }
-    ensures { ReadPost (ended (state_of buffer.old held.now (progress r))) result buffer.new held.now }
+    requires { GoodReading buffer.old held.now r }
+    ensures { ReadPost (ended (state_of buffer.old held.now r)) result buffer.new held.now }
 {
-    if r.refusal.is_some() {
+    if r.refusal != 0 {
         return r;
     }
     match take(buffer, r.draft, &held[..r.used]) {
@@ -124,10 +123,10 @@ fn end_line(buffer: &mut [u8], held: &[u8], r: Reading) -> Reading
             line: next_line(r.line),
             used: 0,
             comment: false,
-            refusal: None,
+            refusal: 0,
         },
         Err(refusal) => Reading {
-            refusal: Some(refusal),
+            refusal: u8::from(refusal),
             ..r
         },
     }
@@ -136,12 +135,12 @@ fn end_line(buffer: &mut [u8], held: &[u8], r: Reading) -> Reading
 // A byte of the line is held. Where it has no room the line can't be read, and that is known before its end: a text without lines gets its answer too.
 fn hold(held: &mut [u8], r: Reading, byte: u8) -> Reading
     requires { length held.old ≡ most_line }
-    ensures value { progress result ≡ reading_after (progress r) }
-    ensures held_after { held.new ≡ held_after (progress r) byte held.old }
+    ensures value { result ≡ reading_after r }
+    ensures held_after { held.new ≡ held_after r byte held.old }
 {
     if r.used >= MOST_LINE {
         return Reading {
-            refusal: Some(Refusal::Line),
+            refusal: u8::from(Refusal::Line),
             ..r
         };
     }
@@ -155,10 +154,10 @@ fn hold(held: &mut [u8], r: Reading, byte: u8) -> Reading
 // One byte of the text.
 #[tactic(auto, unfolding(crate::specs::Feeding::fed_byte))]
 fn feed_byte(buffer: &mut [u8], held: &mut [u8], r: Reading, byte: u8) -> Reading
-    requires { GoodReading buffer.old held.old (progress r) }
-    ensures { ReadPost (fed_byte (state_of buffer.old held.old (progress r)) byte) result buffer.new held.new }
+    requires { GoodReading buffer.old held.old r }
+    ensures { ReadPost (fed_byte (state_of buffer.old held.old r) byte) result buffer.new held.new }
 {
-    if r.refusal.is_some() {
+    if r.refusal != 0 {
         return r;
     }
     if byte == NEWLINE {
@@ -172,8 +171,8 @@ fn feed_byte(buffer: &mut [u8], held: &mut [u8], r: Reading, byte: u8) -> Readin
 
 // A piece of the text.
 pub fn feed(buffer: &mut [u8], held: &mut [u8], from: Reading, piece: &[u8]) -> Reading
-    requires { GoodReading buffer.old held.old (progress from) }
-    ensures { ReadPost (fed (state_of buffer.old held.old (progress from)) piece.now) result buffer.new held.new }
+    requires { GoodReading buffer.old held.old from }
+    ensures { ReadPost (fed (state_of buffer.old held.old from) piece.now) result buffer.new held.new }
 {
     let mut r = from;
     for &byte in piece {
@@ -183,24 +182,25 @@ pub fn feed(buffer: &mut [u8], held: &mut [u8], from: Reading, piece: &[u8]) -> 
 }
 
 // "refused N at line L"
-fn put_refused(out: &mut [u8], refusal: Refusal, line: u64) -> usize
+fn put_refused(out: &mut [u8], refusal: u8, line: u64) -> usize
     requires { length out.old ≡ most_bytes }
-    ensures puts { Puts (refused_text (number refusal) line) out.old result out.new }
+    ensures puts { Puts (refused_text refusal line) out.old result out.new }
     ensures upper_bound { result ≤ most_bytes }
 {
-    let used = ascii::put_named(out, b"refused ", u64::from(u8::from(refusal)), ascii::SPACE);
+    let used = ascii::put_named(out, b"refused ", u64::from(refusal), ascii::SPACE);
     used + ascii::put_named(&mut out[used..], b"at line ", line, NEWLINE)
 }
 
 // The text has ended: its answer stands at the front of the buffer.
 pub fn finish(buffer: &mut [u8], held: &[u8], r: Reading) -> Answer
-    requires { GoodReading buffer.old held.now (progress r) }
-    ensures { FinishPost (state_of buffer.old held.now (progress r)) result buffer.new }
+    requires { GoodReading buffer.old held.now r }
+    ensures { FinishPost (state_of buffer.old held.now r) result buffer.new }
 {
     let last = end_line(buffer, held, r);
-    let n = match last.refusal {
-        Some(refusal) => put_refused(buffer, refusal, last.line),
-        None => bench_writer::finish(buffer, last.draft),
+    let n = if last.refusal != 0 {
+        put_refused(buffer, last.refusal, last.line)
+    } else {
+        bench_writer::finish(buffer, last.draft)
     };
     Answer {
         n,

@@ -60,7 +60,9 @@ fn read_numbers(text: &[u8], count: usize) -> Option<[u64; 10]>
     let mut n = [0u64; 10];
     let mut rest = text;
     for i in 0..count {
-        let (part, after) = first_part(rest)?;
+        let Some((part, after)) = first_part(rest) else {
+            return None;
+        };
         n[i] = number(part)?;
         rest = after;
     }

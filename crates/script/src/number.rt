@@ -7,6 +7,7 @@ const DECIMAL: u32 = 10;
 const HEXADECIMAL: u32 = 16;
 
 // The number of these digits: none where a byte is no digit, or from 2^64 on.
+#[tactic(auto, using(crate::proofs::Digits::no_digit_told, crate::proofs::Digits::product_told, crate::proofs::Digits::sum_passed, crate::proofs::Digits::one_more, crate::proofs::Digits::ended))]
 fn digits(text: &[u8], base: u32) -> Option<u64>
     requires { IsBase base }
     ensures { result ≡ read_as base 0 text.now }

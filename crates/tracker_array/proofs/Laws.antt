@@ -19,11 +19,11 @@ use Rattle.cdp_running.specs.declared.Tracker.{Tracker}
 use Rattle.cdp_running.specs.Tracker.{Good}
 use Rattle.tracker_array.specs.Array.{size, flag, rule_number, encode_of, is_on, is_flag, is_rule, rule_of, Sized, IsTracker, NoTracker}
 use Rattle.tracker_array.specs.Place as P
-use Rattle.tracker_array.specs.Read.{place, settings_in, tracker_in, zeros_from, in_form, settings_good, kept_good, is_tracker}
+use Rattle.tracker_array.specs.Read.{place, settings_in, tracker_in, zeros_from, in_form, settings_good, kept_good, is_good, is_tracker}
 use Rattle.tracker_array.specs.Good.{InForm, Fits, GoodArray}
 use Rattle.tracker_array.proofs.State.{state_back, state_low, number_back}
 use Rattle.tracker_array.proofs.Stores.{numbers_from, spelled, in_two, all_zero}
-use Rattle.tracker_array.proofs.Invariant.{kept_tests, tests_kept}
+use Rattle.tracker_array.proofs.Invariant.{tests_good, good_tests}
 
 flag_low : (b : Bool) → is_flag (flag b) ≡ true
 flag_low true = refl
@@ -78,9 +78,19 @@ settings_low a e =
     let (low, zero) = simp tests at e in
     rw (number_period (is_on (place a P.periodic)) (place a P.period) zero) low
 
+-- Where the numbers of the settings are good, the width of the period asks nothing more.
+pub width_asked : (a : List ℕ) → (settings_good a && (leb (place a P.state) 6 && kept_good (tracker_in a)))
+    ≡ (settings_good a && (leb (place a P.state) 6 && is_good (tracker_in a)))
+width_asked a = at (settings_good a) refl
+  where
+    at : (b : Bool) → settings_good a ≡ b → (b && (leb (place a P.state) 6 && kept_good (tracker_in a)))
+        ≡ (b && (leb (place a P.state) 6 && is_good (tracker_in a)))
+    at true e = let low = lt-ltb _ _ (settings_low a e) in simp low
+    at false e = refl
+
 -- A tracker's numbers pass five tests.
 tracker_is : (a : List ℕ) → (is_tracker a ≡ true)
-    ↔ ((length a ≡ size) × ((in_form a ≡ true) × ((settings_good a ≡ true) × ((place a P.state ≤ 6) × (kept_good (tracker_in a) ≡ true)))))
+    ↔ ((length a ≡ size) × ((in_form a ≡ true) × ((settings_good a ≡ true) × ((place a P.state ≤ 6) × (is_good (tracker_in a) ≡ true)))))
 unfolding is_tracker
 tracker_is a = (
   λ e.
@@ -132,7 +142,7 @@ module _ (t : Tracker) where
 
   pub tracker_back : Good t → Sized t → is_tracker (encode_of t) ≡ true
   tracker_back g s =
-      (tracker_is (encode_of t)).1 (long_back, (form_back, (settings_back s, (state_back_low, ap kept_good reads_back ∙ tests_kept t g s))))
+      (tracker_is (encode_of t)).1 (long_back, (form_back, (settings_back s, (state_back_low, ap is_good reads_back ∙ good_tests t g s))))
 
 -- No two trackers have the same numbers.
 pub encode_apart : (t u : Tracker) → encode_of t ≡ encode_of u → t ≡ u
@@ -154,13 +164,13 @@ written a e =
 pub tracker_good : (a : List ℕ) → is_tracker a ≡ true → Good (tracker_in a) × Sized (tracker_in a)
 tracker_good a e =
     let (long, (form, (settings, (low, tested)))) = (tracker_is a).0 e in
-    kept_tests (tracker_in a) (settings_low a settings) tested
+    tests_good (tracker_in a) tested
 
 -- They fit the widths that they are read with.
 pub tracker_fits : (a : List ℕ) → is_tracker a ≡ true → Fits a
 tracker_fits a e =
     let (long, (form, (settings, (low, tested)))) = (tracker_is a).0 e in
-    let (good, sized) = kept_tests (tracker_in a) (settings_low a settings) tested in
+    let (good, sized) = tests_good (tracker_in a) tested in
     let (period, none) = simp tests at settings in
     let (position, (orbit, (trigger, (bc, (page, (stop, two)))))) = simp tests at good.packet in
     let format = at (eqb (place a P.format) 0) refl two in
@@ -196,12 +206,12 @@ in_form_lem a long e =
 -- Where no packet was accepted, a tracker is one that the start gave: nothing stands in it but the settings.
 pub bare_good : (a : List ℕ) → InForm a → is_on (place a P.accepted) ≡ false
     → (settings_good a && zeros_from (P.unused - P.packets) P.packets a) ≡ (settings_good a
-    && (leb (place a P.state) 6 && kept_good (tracker_in a)))
+    && (leb (place a P.state) 6 && is_good (tracker_in a)))
 unfolding numbers_from encode_of zeros_from
 bare_good a f off = tests_agree _ _ there back
   where
     there : (settings_good a && zeros_from (P.unused - P.packets) P.packets a) ≡ true
-        → (settings_good a && (leb (place a P.state) 6 && kept_good (tracker_in a))) ≡ true
+        → (settings_good a && (leb (place a P.state) 6 && is_good (tracker_in a))) ≡ true
     there e =
         let (set, zeros) = both (settings_good a) _ e in
         let same : a ≡ numbers_from P.packets 0 a ++ (replicate (P.unused - P.packets) 0
@@ -211,15 +221,16 @@ bare_good a f off = tests_agree _ _ there back
         (in_two (P.unused - P.packets) (size - P.unused) P.packets a
         ∙ ap (λ (l : List ℕ). l ++ numbers_from (size - P.unused) P.unused a)
         (all_zero (P.unused - P.packets) P.packets a zeros)) in
-        (and_is _ _).1 (set, ap (λ (l : List ℕ). leb (place l P.state) 6 && kept_good (tracker_in l)) same ∙ simp (off, or-true))
+        sym (width_asked a)
+        ∙ (and_is _ _).1 (set, ap (λ (l : List ℕ). leb (place l P.state) 6 && kept_good (tracker_in l)) same ∙ simp (off, or-true))
 
-    back : (settings_good a && (leb (place a P.state) 6 && kept_good (tracker_in a))) ≡ true
+    back : (settings_good a && (leb (place a P.state) 6 && is_good (tracker_in a))) ≡ true
         → (settings_good a && zeros_from (P.unused - P.packets) P.packets a) ≡ true
     back e =
         let (set, rest) = both (settings_good a) _ e in
         let (low, good) = both (leb (place a P.state) 6) _ rest in
         let own = written a ((tracker_is a).1 (f.long, (f.form, (set, (leb-true _ _ low, good))))) in
-        let bare = (kept_tests (tracker_in a) (settings_low a set) good).0.fresh off in
+        let bare = (tests_good (tracker_in a) good).0.fresh off in
         (and_is _ _).1 (set, ap (zeros_from (P.unused - P.packets) P.packets) (own ∙ ap encode_of bare))
 
 pub read_as : (a : List ℕ) (t : Tracker) → IsTracker a t → tracker_in a ≡ t
@@ -255,7 +266,7 @@ another_length a h = no_tracker_lem a (simp (ne_eqb _ _ h))
 
 -- What the code tests, one half after the other.
 module _ (a : List ℕ) where
-  pub tested : {f g : Bool} → length a ≡ size → f ≡ in_form a → g ≡ (settings_good a && (leb (place a P.state) 6 && kept_good (tracker_in a)))
+  pub tested : {f g : Bool} → length a ≡ size → f ≡ in_form a → g ≡ (settings_good a && (leb (place a P.state) 6 && is_good (tracker_in a)))
       → is_tracker a ≡ (f && g)
   unfolding is_tracker
   tested l p q = simp (eq-eqb _ _ l, p, q)

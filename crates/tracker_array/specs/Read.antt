@@ -168,10 +168,10 @@ kept_good t =
     && (stored_good t.settings.frames t.stored t.frame
     && (nothing_missing t.at.fsm.state t.stored && (t.accepted || (packet_blank t.packet && blank t))))))
 
--- The same with the width of the period, which in_form's numbers are asked by themselves.
+-- The same with the width of the period. That of numbers is asked of them (`settings_good`), and is then that of the tracker that they are read as.
 abbrev pub is_good : Tracker → Bool
 is_good t = ltb (period_of t.settings) (2 ^ 32) && kept_good t
 
 -- The length, the form, the period, one of the seven states, and the invariant.
 unfoldable pub is_tracker : List ℕ → Bool
-is_tracker a = eqb (length a) size && (in_form a && (settings_good a && (leb (place a P.state) 6 && kept_good (tracker_in a))))
+is_tracker a = eqb (length a) size && (in_form a && (settings_good a && (leb (place a P.state) 6 && is_good (tracker_in a))))

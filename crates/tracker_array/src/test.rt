@@ -5,7 +5,7 @@ ghost use Rattle.tracker_array.specs.Array.{size, is_on};
 ghost use Rattle.tracker_array.specs.Place as P;
 ghost use Rattle.tracker_array.specs.Read.{place, settings_in, packet_in, ihw_in, tdh_in, internal_in, cdw_in, stored_in, frame_in, tracker_in};
 ghost use Rattle.tracker_array.specs.Read.{flags_fit, zeros_from, in_form, settings_good, ihw_good, tdh_good, internal_good, cdw_good, frame_good};
-ghost use Rattle.tracker_array.specs.Read.{packets_good, stored_good, nothing_missing, kept_good};
+ghost use Rattle.tracker_array.specs.Read.{packets_good, stored_good, nothing_missing, is_good};
 ghost use Rattle.tracker_array.specs.Good.{InForm};
 
 use crate::{MARK, SIZE, place, rules};
@@ -190,7 +190,7 @@ fn bare(a: &[u64]) -> bool
 // One of the seven states, and the invariant: with a packet, or as the start gave it.
 pub(crate) fn is_good(a: &[u64]) -> bool
     requires { InForm a.now }
-    ensures { result ≡ (settings_good a.now && (leb (place a.now P.state) 6 && kept_good (tracker_in a.now))) }
+    ensures { result ≡ (settings_good a.now && (leb (place a.now P.state) 6 && is_good (tracker_in a.now))) }
 {
     if a[place::ACCEPTED] != 1 {
         return bare(a);

@@ -2,14 +2,18 @@
 -- Assumes nothing.
 use Prim.Native.Nat.{ℕ, ◌<◌, ◌^◌}
 use mathlib.Core.Path.{◌≡◌, refl, sym, ap, subst, ◌∙◌}
-use mathlib.Core.Bool.{Bool, true, false}
+use mathlib.Core.Bool.{Bool, true, false, cond, ◌||◌}
 use mathlib.Core.List.{List, [], ◌∷◌}
+use lib.Dec.{eqb}
 use lib.ListN.{length}
+use borrow.Author.Tests.{eqb-true}
 use mir.Val.{bool_byte}
 use native.Mathlib.Omega.{arith}
 use Rattle.tracker_array.specs.Good.{GoodArray}
 use Rattle.std.proofs.lemmas.List.Edits.{sets}
 use Rattle.payload_fsm.specs.declared.State.{State}
+use Rattle.payload_fsm.specs.declared.State.TheVariants as S
+use Rattle.payload_fsm.specs.Step.{among_data}
 use Rattle.stored.specs.declared.StoredIhw.{StoredIhw}
 use Rattle.stored.specs.declared.StoredTdh.{StoredTdh}
 use Rattle.stored.specs.declared.InternalTdh.{InternalTdh}
@@ -18,7 +22,7 @@ use Rattle.stored.specs.declared.Frame.{Frame}
 use Rattle.cdp_running.specs.declared.Tracker.{Tracker}
 use Rattle.tracker_array.specs.Array.{size, flag, state_number, encode_of, ihw_numbers, tdh_numbers, internal_numbers, cdw_numbers, frame_numbers}
 use Rattle.tracker_array.specs.Place as P
-use Rattle.tracker_array.specs.Read.{place, tracker_in}
+use Rattle.tracker_array.specs.Read.{place, state_of, tracker_in}
 use Rattle.tracker_array.proofs.Laws.{reads_back}
 use Rattle.tracker_memory.specs.Holds.{Widths, Holds}
 use Rattle.tracker_memory.specs.Memory.{with_at, with_counted, with_seen, with_ihw, with_tdh, with_internal, with_cdw, with_frame}
@@ -27,6 +31,26 @@ use Rattle.tracker_memory.specs.Memory.{with_at, with_counted, with_seen, with_i
 pub flag_number : (b : Bool) → bool_byte b ≡ flag b
 flag_number true = refl
 flag_number false = refl
+
+-- DATA_ and c_DATA_ are the states 2 and 3.
+pub among_data_lem : (n : ℕ) → (eqb n 2 || eqb n 3) ≡ among_data (state_of n)
+among_data_lem n = at (eqb n 0) (eqb n 1) (eqb n 2) (eqb n 3) (eqb n 4) (eqb n 5) refl refl refl refl
+  where
+    neither : {c d : Bool} (k : ℕ) → n ≡ k → eqb n 2 ≡ c → eqb n 3 ≡ d → eqb k 2 ≡ false → eqb k 3 ≡ false
+        → (c || d) ≡ false
+    neither k e r s two three =
+        simp (sym r ∙ ap (λ (j : ℕ). eqb j 2) e ∙ two, sym s ∙ ap (λ (j : ℕ). eqb j 3) e ∙ three)
+
+    at : (a b c d e f : Bool) → eqb n 0 ≡ a → eqb n 1 ≡ b → eqb n 2 ≡ c → eqb n 3 ≡ d
+        → (c || d) ≡ among_data (cond a S.Ihw (cond b S.Tdh
+        (cond c S.Data (cond d S.CData (cond e S.Three (cond f S.CIhw S.CTdh))))))
+    at true b c d e f p q r s = neither 0 (eqb-true n 0 p) r s refl refl
+    at false true c d e f p q r s = neither 1 (eqb-true n 1 q) r s refl refl
+    at false false true d e f p q r s = refl
+    at false false false true e f p q r s = refl
+    at false false false false true f p q r s = refl
+    at false false false false false true p q r s = refl
+    at false false false false false false p q r s = refl
 
 long : (t : Tracker) → length (encode_of t) ≡ size
 unfolding encode_of

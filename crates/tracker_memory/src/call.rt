@@ -41,7 +41,8 @@ pub fn step<T: TrackerMemory>(t: &mut T, word: Word, out: &mut [u64]) -> Result<
 {
     let taken = taken_as(t, word);
     let here = position(t);
-    let records = rows::write(t, taken, word, here, out)?;
+    let written = rows::write(t, taken, word, here, out);
+    let records = written?;
     stores::store(t, taken, word, here);
     Ok(records)
 }

@@ -66,8 +66,9 @@ fn rows<T: TrackerMemory>(t: &T, taken: Advanced, word: Word) -> [Row; MOST_RECO
     }
 }
 
-// Whether they surely give no record: only their conditions are asked, and no row is made. Data words are not asked, since quiet ones do not come here and
-// most others give one. The choice by kind stands here once more so that it is inlined: `silent(rows(..))` costs 66 instructions more a clean word.
+// Whether they surely give no record: only their conditions are asked, and no row is made. Data words are not asked: of a payload and a word on C's numbers
+// the quiet ones do not come here (`payload::quick`), and most others give one; by value all come, and their rows are made. The choice by kind stands here
+// once more so that it is inlined: `silent(rows(..))` costs 66 instructions more a clean word.
 #[tactic(auto, using(records::proofs::Given::silent_padded))]
 fn is_silent<T: TrackerMemory>(t: &T, taken: Advanced, word: Word) -> bool
     requires { T.holds t.now }

@@ -27,22 +27,20 @@ pub fn check_at_ddw0(
 {
     let fault = sanity_check(word);
     let id = word.id();
-    [
-        when(guessed, 992, id as u64, 0),
-        when(fault != 0, 60, fault, 0),
-        when(
-            settings.running & (packet.stop != 1),
-            1110,
-            packet.stop as u64,
-            0,
-        ),
-        when(
-            settings.running & (packet.page == 0),
-            1111,
-            packet.page as u64,
-            0,
-        ),
-        none(),
-        none(),
-    ]
+    let mut rows = [none(); MOST_RECORDS];
+    rows[0] = when(guessed, 992, id as u64, 0);
+    rows[1] = when(fault != 0, 60, fault, 0);
+    rows[2] = when(
+        settings.running & (packet.stop != 1),
+        1110,
+        packet.stop as u64,
+        0,
+    );
+    rows[3] = when(
+        settings.running & (packet.page == 0),
+        1111,
+        packet.page as u64,
+        0,
+    );
+    rows
 }

@@ -27,14 +27,12 @@ pub fn check_at_initial_ihw(
     let fault = sanity_check(word);
     let stop = packet.stop as u64;
     let page = packet.page as u64;
-    [
-        when(fault != 0, 30, fault, 0),
-        when(settings.running & (stop != 0), 1120, stop, 0),
-        when(settings.running & (!three & (page != 0)), 1121, page, 0),
-        when(settings.running & (three & (page == 0)), 1122, page, 0),
-        none(),
-        none(),
-    ]
+    let mut rows = [none(); MOST_RECORDS];
+    rows[0] = when(fault != 0, 30, fault, 0);
+    rows[1] = when(settings.running & (stop != 0), 1120, stop, 0);
+    rows[2] = when(settings.running & (!three & (page != 0)), 1121, page, 0);
+    rows[3] = when(settings.running & (three & (page == 0)), 1122, page, 0);
+    rows
 }
 
 // Kind IHW continuation.
@@ -42,12 +40,7 @@ pub fn check_continuation(word: Word) -> [Row; MOST_RECORDS]
     ensures { result ≡ padded (continuation_rows word) }
 {
     let fault = sanity_check(word);
-    [
-        when(fault != 0, 30, fault, 0),
-        none(),
-        none(),
-        none(),
-        none(),
-        none(),
-    ]
+    let mut rows = [none(); MOST_RECORDS];
+    rows[0] = when(fault != 0, 30, fault, 0);
+    rows
 }

@@ -16,12 +16,8 @@ pub fn check(settings: Settings, opened: bool, word: Word) -> [Row; MOST_RECORDS
     let tdt = Tdt { word };
     let fault = sanity_check(tdt, false);
     let done = tdt.packet_done();
-    [
-        when(fault != 0, 50, fault, 0),
-        when(settings.frames & (done & !opened), 59, 0, 0),
-        none(),
-        none(),
-        none(),
-        none(),
-    ]
+    let mut rows = [none(); MOST_RECORDS];
+    rows[0] = when(fault != 0, 50, fault, 0);
+    rows[1] = when(settings.frames & (done & !opened), 59, 0, 0);
+    rows
 }

@@ -55,6 +55,9 @@ pub masked : (n k w x : ℕ) → k < w → x ≡ n % 2 ^ k → (n % ((1 * 2 ^ k)
     × (n % ((1 * 2 ^ k) % 2 ^ w) < 2 ^ k)
 masked n k w x h e = rw (one_shl k w h) (sym e, mod-lt n (pow_pos k))
 
+pub shl_pos : (k w : ℕ) → k < w → 0 < (1 * 2 ^ k) % 2 ^ w
+shl_pos k w h = rw (one_shl k w h) (pow_pos k)
+
 -- A range that lies in both halves is put together of its parts.
 pub both_halves : (h l : ℕ) (w : Word) → l ≤ 64 → 64 ≤ h → bits h l w ≡ bits h 64 w * 2 ^ (64 - l) + bits 63 l w
 unfolding bits

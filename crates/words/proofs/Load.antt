@@ -1,9 +1,11 @@
 -- A word as it is loaded: the number that ten bytes are, byte by byte.
 -- Assumes nothing.
 use Rattle.std.proofs.Common.{ℕ, zero, suc, ◌+◌, ◌*◌, ◌<◌, ◌≤◌, ◌^◌, ◌≡◌, refl, ap, ◌∙◌, List, [], ◌∷◌, le_of_eq, arith, lit<, length, get_or, take, drop}
-use Rattle.std.proofs.Common.{length-drop, drop_of_length-le, length-take-le, get_or-take, get_or-drop}
+use Rattle.std.proofs.Common.{length-drop, drop_of_length-le, length-take-le, get_or-take, get_or-drop, Ok, Err}
+use borrow.Author.Tests.{eq-eqb, ne_eqb}
+use Rattle.refusals.specs.declared.Refusal.TheVariants.{Size}
 use Rattle.words.specs.declared.Word.{Word}
-use Rattle.words.specs.Word.{number, word_of, value, id_of, bits}
+use Rattle.words.specs.Word.{number, word_of, value, id_of, bits, FromBufPost}
 
 -- The number of the bytes from a place on is that byte and 256 times those after it.
 peel : (b : List ℕ) (i : ℕ) → number (drop i b) ≡ get_or b i 0 + 256 * number (drop (suc i) b)
@@ -75,3 +77,11 @@ id_at_lem b at h byte =
     id_byte (take 10 (drop at b)) long (cut 10 (drop at b) (λ i. rw (get_or-drop at b i 0) (byte (at + i))))
     ∙ get_or-take 10 (drop at b) 9 0 (lit< tt)
     ∙ get_or-drop at b 9 0
+
+-- What a buffer is read as: a word where it has ten bytes, else refusal 1.
+pub read_ten : (b : List ℕ) {w : Word} → length b ≡ 10 → w ≡ word_of b → FromBufPost b (Ok w)
+read_ten b e p =
+    record { answer = simp (eq-eqb _ _ e) (ap Ok p); number = simp (eq-eqb _ _ e); value = simp (eq-eqb _ _ e) p }
+
+pub read_none : (b : List ℕ) → (length b ≡ 10 → ⊥) → FromBufPost b (Err Size)
+read_none b e = record { answer = simp (ne_eqb _ _ e); number = simp (ne_eqb _ _ e); value = simp (ne_eqb _ _ e) }

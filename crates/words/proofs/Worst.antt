@@ -109,7 +109,7 @@ last_lane (suc n) x =
 
 -- The lanes of a word stand in its lower half.
 module _ (w : Word) (fits : w.lo < 2 ^ 64) where
-  lane : (n : ℕ) → n < lanes → lane_status n w ≡ w.lo / 2 ^ (2 * n) % 4
+  pub lane : (n : ℕ) → n < lanes → lane_status n w ≡ w.lo / 2 ^ (2 * n) % 4
   lane n h =
       let two : 2 * n + 1 + 1 - 2 * n ≡ 2 = omega arith in
       simp (lt-ltb n lanes h) (low_half (2 * n + 1) (2 * n) w fits (omega arith) (omega arith)

@@ -15,12 +15,14 @@ pub fn ddw0_tdt_lane_status_27_0(word: Word) -> u64
     word.bits(55, 0)
 }
 
-// The status of a lane of a TDT or DDW0: 0 good, 1 warning, 2 error, 3 fatal. A lane above 27 has none: 0.
+// The status of a lane of a TDT or DDW0: 0 good, 1 warning, 2 error, 3 fatal. A lane above 27 has none: 0. All lanes stand in the lower half, so no number of
+// 80 bits is shifted by a lane of the caller's: small controllers have no instruction for that.
+#[tactic(auto, using(crate::proofs::Worst::lane))]
 pub fn ddw0_tdt_lane_status(word: Word, lane: u8) -> u8
     ensures { result ≡ lane_status lane word }
 {
     if lane < LANES {
-        word.bits(2 * lane + 1, 2 * lane) as u8
+        ((word.lo >> (2 * lane)) % 4) as u8
     } else {
         0
     }

@@ -47,6 +47,7 @@ use Rattle.std.proofs.Common.{
 use native.Mathlib.Nat.{div-div-eq-div-mul}
 use borrow.Author.Tests.{lt-ltb, ltb-true, ltb-false, lt-leb, eq-eqb, ne_eqb}
 use borrow.Rule.Slice.PartMut.{put_mid}
+use lib.Seq.{sets, sets-eq}
 use Rattle.refusals.specs.declared.Refusal.{Refusal}
 use Rattle.refusals.specs.declared.Refusal.TheVariants.{Field}
 use Rattle.refusals.specs.Refusals.{code, number as refusal_number}
@@ -167,10 +168,18 @@ pub data_high : (w : Word) → w.lo < 2 ^ 64 → w.hi % 256 ≡ bits 71 64 w
 unfolding bits
 data_high w h = omega arith
 
+-- A slice that is filled from its front on is what it was filled with.
+pub filled : (vs d : List ℕ) → length d ≡ length vs → sets d 0 vs ≡ vs
+filled vs d e =
+    sets-eq vs d 0 (omega arith) ∙ ap (λ (l : List ℕ). vs ++ l) (drop_of_length-le d past) ∙ append-nil vs
+  where
+    past : length d ≤ 0 + length vs
+    past = omega arith
+
 -- The two parts of a slice of ten bytes, each filled, and that they are the word's bytes.
-pub filled : (lo hi d : List ℕ) → length lo ≡ 8 → length d ≡ 10
+pub filled_parts : (lo hi d : List ℕ) → length lo ≡ 8 → length d ≡ 10
     → put_mid 8 (length (lo ++ drop 8 d) - 8) (lo ++ drop 8 d) hi ≡ lo ++ hi
-filled lo hi d e h =
+filled_parts lo hi d e h =
     ap₂ ◌++◌ (take_at lo (drop 8 d) 8 e) (ap (λ (l : List ℕ). hi ++ l) (drop_of_length-le _ past) ∙ append-nil hi)
   where
     past : length (drop 8 (lo ++ drop 8 d)) ≤ length (lo ++ drop 8 d) - 8
@@ -197,20 +206,24 @@ ten w lo hi =
     same = ap₂ ◌∷◌
 
 -- What a packed word says of its fields, and what is then refused or written.
-pub packs : (f : Fields) {o : Option Word} {r : Result Word Refusal} → o ≡ fitted f → r ≡ ok_or o Field → PackPost f r
-packs f {r = r} q p = record { answer = is; number = ap code is ∙ (at (fields_fit f)).1.0; value = ap word_in is ∙ (at (fields_fit f)).1.1 }
+pub packs : (f : Fields) {r : Result Word Refusal} → r ≡ packed f → PackPost f r
+packs f e = record { answer = e; number = ap code e ∙ (at (fields_fit f)).0; value = ap word_in e ∙ (at (fields_fit f)).1 }
   where
     no_word : Word
     no_word = record { lo = 0; hi = 0 }
 
-    at : (b : Bool) → (ok_or (cond b (Some (word_from f)) None) Field ≡ cond b (Ok (word_from f)) (Err Field))
-        × ((code (cond b (Ok (word_from f)) (Err Field)) ≡ cond b 0 8)
-        × (word_in (cond b (Ok (word_from f)) (Err Field)) ≡ cond b (word_from f) no_word))
-    at true = (refl, (refl, refl))
-    at false = (refl, (refl, refl))
+    at : (b : Bool) → (code (cond b (Ok (word_from f)) (Err Field)) ≡ cond b 0 8)
+        × (word_in (cond b (Ok (word_from f)) (Err Field)) ≡ cond b (word_from f) no_word)
+    at true = (refl, refl)
+    at false = (refl, refl)
 
-    is : r ≡ packed f
-    is = p ∙ ap (λ (o : Option Word). ok_or o Field) q ∙ (at (fields_fit f)).0
+-- The same of the fields that fit, or of none.
+pub packs_fitted : (f : Fields) {o : Option Word} {r : Result Word Refusal} → o ≡ fitted f → r ≡ ok_or o Field → PackPost f r
+packs_fitted f q p = packs f (p ∙ ap (λ (o : Option Word). ok_or o Field) q ∙ at (fields_fit f))
+  where
+    at : (b : Bool) → ok_or (cond b (Some (word_from f)) None) Field ≡ cond b (Ok (word_from f)) (Err Field)
+    at true = refl
+    at false = refl
 
 apart : (r : Refusal) (w : Word) → Err r ≡ Ok w → ⊥
 apart r w e = let z : ◌≡◌ {A = ℕ} 0 1 = cc in omega arith

@@ -136,7 +136,7 @@ fn word_of(fields: Fields) -> Option<Word>
 }
 
 // The word that fields are, or refusal 8: a field is wider than its bits, or a data word's id is no data id.
-#[tactic(auto, using(crate::proofs::Writing::packs))]
+#[tactic(auto, using(crate::proofs::Writing::packs_fitted))]
 pub fn pack(fields: Fields) -> Result<Word, Refusal>
     ensures { PackPost fields result }
 {

@@ -59,7 +59,7 @@ pub returns-in-Refused : goal.returns-in-Refused
 unfolding refused_line
 returns-in-Refused c =
     let p = in_room_lem _ _ (omega arith) c.put_line-in-Refused.ensures in
-    staged c.requires.good c.in-Refused.is (record { next_is = c.begin-in-Refused.ensures; puts = rw c.from.ensures at p })
+    staged c.requires.good c.in-Refused.is (record { next_is = c.begin-in-Refused.ensures; puts = p })
 
 pub returns-in-Done : goal.returns-in-Done
 returns-in-Done c = staged c.requires.good c.in-Done.is (record { next_is = refl; puts = none_put _ })

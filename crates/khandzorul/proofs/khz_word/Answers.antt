@@ -10,4 +10,4 @@ word-requires c = is_good c.args.tracker.now c.is_tracker.ensures c.if-not-is_tr
 
 pub returns : goal.returns
 returns c =
-    word_done c.args.tracker.now c.is_tracker.ensures c.if-not-is_tracker.false c.word.ensures c.told.ensures
+    word_done c.args.tracker.now c.is_tracker.ensures c.if-not-is_tracker.false c.word.ensures.word c.told.ensures

@@ -19,9 +19,11 @@ returns-in-Items c = staged c.args.file.now c.args.r c.in-Items.is c.item_step.e
 pub returns-in-Refused : goal.returns-in-Refused
 unfolding refused_line
 returns-in-Refused c =
-    let p = in_room_lem (8 + most_number) _ (omega arith) c.put_named.ensures.puts in
     staged c.args.file.now c.args.r c.in-Refused.is
-    (record { next_is = c.at_stage-in-Refused.ensures; puts = rw c.from.ensures at p })
+    (record {
+      next_is = c.at_stage-in-Refused.ensures;
+      puts = in_room_lem (8 + most_number) _ (omega arith) c.put_named.ensures.puts;
+    })
 
 pub returns-in-Done : goal.returns-in-Done
 returns-in-Done c = staged c.args.file.now c.args.r c.in-Done.is (record { next_is = refl; puts = none_put _ })

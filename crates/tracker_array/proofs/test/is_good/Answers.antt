@@ -8,7 +8,7 @@ use Rattle.tracker_array.specs.Place as P
 use Rattle.tracker_array.specs.Array.{is_on}
 use Rattle.tracker_array.specs.Read.{place, packet_in, stored_in, frame_in, tracker_in}
 use Rattle.tracker_array.specs.Read.{settings_good, packets_good, stored_good, nothing_missing, kept_good}
-use Rattle.tracker_array.proofs.Laws.{bare_good}
+use Rattle.tracker_array.proofs.Laws.{bare_good, width_asked}
 use Rattle.tracker_array.proofs.test.is_good.Goals as goal
 
 first : (a b c d : Bool) → (a && (b && (c && d))) ≡ (c && (a && (b && d)))
@@ -41,9 +41,11 @@ returns-then-not-stored_good c =
     holds c.came_good.ensures (ap not c.if-not-came_good.false)
     (fails _ c.stored_good.ensures (ap not c.if-not-stored_good.true))
     ∙ grouped c.args.a.now (eq-eqb _ _ c.if-a-ne1.false)
+    ∙ width_asked c.args.a.now
 
 pub returns : goal.returns
 returns c =
     holds c.came_good.ensures (ap not c.if-not-came_good.false)
     (holds c.stored_good.ensures (ap not c.if-not-stored_good.false) c.nothing_missing.ensures)
     ∙ grouped c.args.a.now (eq-eqb _ _ c.if-a-ne1.false)
+    ∙ width_asked c.args.a.now

@@ -1,5 +1,5 @@
 -- The tests that led to a return say which case of the definition holds.
-use Rattle.std.proofs.Common.{arith, refl, sym, ◌∙◌, true, false}
+use Rattle.std.proofs.Common.{arith, refl, sym, ◌∙◌}
 use Rattle.cdp_running.proofs.Calls.{ten, word_2, word_3}
 use Rattle.tracker_memory.proofs.Steps.{handed_on, told_with, word_denied, word_done, word_short}
 use Rattle.tracker_memory.proofs.call.word.Goals as goal
