@@ -64,7 +64,7 @@ module _ (t : Tracker) (k : Kept t) where
       ))
       k k
 
-  kept_taken : (bytes : List ℕ) (places : ℕ) (o : Outcome) → word_call t bytes places ≡ o
+  pub kept_taken : (bytes : List ℕ) (places : ℕ) (o : Outcome) → word_call t bytes places ≡ o
       → Kept (Word.word_answer t o).tracker
   kept_taken bytes places (taken x) e =
       let w = word_of bytes in

@@ -1,11 +1,11 @@
 -- What a word of each kind stores among the numbers of a tracker, besides state and count: the places that it changes, and no others. And the numbers that
--- a word call in place leaves, by that.
+-- a word call and a payload call in place leave, by that.
 -- Assumes nothing.
-use Rattle.std.specs.Prelude.{ℕ, ◌+◌, ◌≡◌, Bool, cond, not, ◌&&◌, List, [], ◌∷◌, Result, Ok, Err, eqb}
+use Rattle.std.specs.Prelude.{ℕ, zero, suc, ◌+◌, ◌≡◌, Bool, cond, not, ◌&&◌, List, [], ◌∷◌, take, drop, Result, Ok, Err, eqb}
 use Rattle.std.proofs.lemmas.List.Edits.{sets}
 use Rattle.refusals.specs.declared.Refusal.{Refusal}
 use Rattle.words.specs.declared.Word.{Word}
-use Rattle.words.specs.Word.{word_of}
+use Rattle.words.specs.Word.{word_bytes, word_of}
 use Rattle.words.specs.Ihw.{active_lanes}
 use Rattle.words.specs.Tdh.{trigger_type, trigger_bc, trigger_orbit, internal_trigger, continuation}
 use Rattle.words.specs.Cdw.{user_fields}
@@ -65,3 +65,10 @@ abbrev pub WordStores : List ℕ → List ℕ → Result Taken Refusal → List 
 WordStores a bytes (Ok told) after =
     after ≡ word_stores (taken_as (tracker_in a) (word_of bytes)) (word_of bytes) a
 WordStores a bytes (Err refusal) after = after ≡ a
+
+-- The numbers after so many words from the front of the bytes, one after the other: each stores in what the one before it left.
+unfoldable pub payload_stores : ℕ → List ℕ → List ℕ → List ℕ
+payload_stores zero bytes a = a
+payload_stores (suc n) bytes a =
+    payload_stores n (drop word_bytes bytes)
+    (word_stores (taken_as (tracker_in a) (word_of (take word_bytes bytes))) (word_of (take word_bytes bytes)) a)

@@ -2,13 +2,14 @@
 // cdp_running, tracker_memory and payload have; the word call and the payload call are those of any memory.
 #![tactic(auto)]
 
+ghost use Rattle.std.specs.Prelude.{◌≡◌};
 ghost use Rattle.refusals.specs.Refusals.{code};
 ghost use Rattle.packet.specs.Packet.{packet_from};
 ghost use Rattle.cdp_running.specs.Told.{told_by};
 ghost use Rattle.payload.specs.Answer.{payload_told_by};
 ghost use Rattle.tracker_array.specs.Good.{GoodArray};
 ghost use Rattle.in_place.specs.Calls.{PacketInPlace, ResetInPlace, WordInPlace, PayloadInPlace};
-ghost use Rattle.in_place.specs.Storing.{WordStores};
+ghost use Rattle.in_place.specs.Storing.{WordStores, payload_stores};
 
 mod stores;
 
@@ -54,7 +55,8 @@ pub fn word(a: &mut [u64], bytes: &[u8], out: &mut [u64]) -> Result<Taken, Refus
 #[tactic(auto, using(tracker_memory::proofs::Numbers::good_holds))]
 pub fn payload(a: &mut [u64], bytes: &[u8], out: &mut [u64]) -> PayloadTold
     requires { GoodArray a.old }
-    ensures { PayloadInPlace a.old bytes.now out.old (payload_told_by result) a.new out.new }
+    ensures payload { PayloadInPlace a.old bytes.now out.old (payload_told_by result) a.new out.new }
+    ensures stores { a.new ≡ payload_stores result.words bytes.now a.old }
 {
     quick::payload(a.as_mut_array::<SIZE>().unwrap(), bytes, out)
 }

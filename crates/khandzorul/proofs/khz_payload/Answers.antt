@@ -10,4 +10,4 @@ payload-answer-requires c = is_good c.args.tracker.now c.is_tracker.ensures c.if
 
 pub returns : goal.returns
 returns c =
-    rw c.code_if.ensures (payload_done c.args.tracker.now c.is_tracker.ensures c.if-not-is_tracker.false c.payload-answer.ensures)
+    rw c.code_if.ensures (payload_done c.args.tracker.now c.is_tracker.ensures c.if-not-is_tracker.false c.payload-answer.ensures.payload)
